@@ -1,0 +1,4 @@
+pub mod Agreeing
+pub mod Splitting
+pub mod Capping
+pub mod Piling

@@ -1,0 +1,6 @@
+pub mod Places
+pub mod Perms
+pub mod Ranked
+pub mod Ties
+pub mod Lookups
+pub mod Slots
