@@ -3,6 +3,7 @@ use mathlib.Core.Path.{_≡_, refl, sym, ap, _∙_}
 use mathlib.Core.Bool.{true}
 use Prim.Native.Nat.{ℕ, _+_, _-_, _≤_, _<_}
 use native.Mathlib.Omega.{arith}
+use lib.Dec.{leb}
 use Rattle.std.proofs.shelf.Ways.{tells}
 use Rattle.std.specs.declared.option.Option.{Option}
 use Rattle.std.specs.declared.option.Option.the-variants.{Some, None}
@@ -22,6 +23,9 @@ account-known h a u e = record { holder = grind (arith, tells); asset = grind (a
 
 pub amount-lawful : (h a n : ℕ) (u : Unit {0}) → Ok u ≡ granted (need (lawfulAmount n) (fault BadAmount h a 0) None) tt → lawfulAmount n ≡ true
 amount-lawful h a n u e = grind (arith, tells)
+
+pub covered : (n m : ℕ) (f : RegisterFault) (u : Unit {0}) → Ok u ≡ granted (need (leb n m) f None) tt → n ≤ m
+covered n m f u e = grind (arith, tells)
 
 -- no balance is above the most
 pub small : (b : Book) (h a : ℕ) → Account-known h a → ((y : ℕ) → y < 12 → total b y ≤ mostAmount) → b .free h a + b .blocked h a ≤ mostAmount

@@ -1,6 +1,7 @@
 ghost use mathlib.Core.Path.{_≡_};
+ghost use lib.Dec.{leb};
 ghost use Rattle.register.specs.Moves.{Release, Pay, refusal, afterMove, need, known, fault, lawfulAmount, granted};
-ghost use Rattle.register.specs.declared.faults.RegisterCause.the-variants.{NoAccount, BadAmount};
+ghost use Rattle.register.specs.declared.faults.RegisterCause.the-variants.{NoAccount, BadAmount, TooLittleFree, TooLittleBlocked};
 ghost use Rattle.std.specs.declared.option.Option.the-variants.{None};
 use crate::accounts::Accounts;
 use crate::balances::Balance;
@@ -48,6 +49,26 @@ fn check_amount(holder: u8, asset: u8, amount: u64) -> Result<(), RegisterFault>
     }
 }
 
+fn check_free(holder: u8, asset: u8, amount: u64, free: u64) -> Result<(), RegisterFault>
+    ensures { λ r. ⌜ r ≡ granted (need (leb amount free) (fault TooLittleFree holder asset 0) None) tt ⌝ }
+{
+    if amount <= free {
+        Ok(())
+    } else {
+        Err(RegisterFault::untagged(RegisterCause::TooLittleFree, holder, asset))
+    }
+}
+
+fn check_blocked(holder: u8, asset: u8, amount: u64, blocked: u64) -> Result<(), RegisterFault>
+    ensures { λ r. ⌜ r ≡ granted (need (leb amount blocked) (fault TooLittleBlocked holder asset 0) None) tt ⌝ }
+{
+    if amount <= blocked {
+        Ok(())
+    } else {
+        Err(RegisterFault::untagged(RegisterCause::TooLittleBlocked, holder, asset))
+    }
+}
+
 impl<A: Accounts> Bottom<A> {
     // Moves an amount from blocked to free.
     fn free_again(&mut self, holder: u8, asset: u8, amount: u64) -> Result<(), RegisterFault>
@@ -56,9 +77,7 @@ impl<A: Accounts> Bottom<A> {
     {
         check_account(holder, asset)?;
         let Balance { free, blocked } = self.accounts.balance(holder, asset);
-        if blocked < amount {
-            return Err(RegisterFault::untagged(RegisterCause::TooLittleBlocked, holder, asset));
-        }
+        check_blocked(holder, asset, amount, blocked)?;
         self.accounts.put(
             holder,
             asset,
@@ -84,9 +103,7 @@ impl<A: Accounts> Bottom<A> {
         check_account(holder, asset)?;
         check_account(payee, asset)?;
         let Balance { free, blocked } = self.accounts.balance(holder, asset);
-        if blocked < amount {
-            return Err(RegisterFault::untagged(RegisterCause::TooLittleBlocked, holder, asset));
-        }
+        check_blocked(holder, asset, amount, blocked)?;
         self.accounts.put(
             holder,
             asset,
@@ -143,9 +160,7 @@ pub impl<A: Accounts> Register for Bottom<A> as BottomRegister {
         check_account(holder, asset)?;
         check_amount(holder, asset, amount)?;
         let Balance { free, blocked } = self.accounts.balance(holder, asset);
-        if free < amount {
-            return Err(RegisterFault::untagged(RegisterCause::TooLittleFree, holder, asset));
-        }
+        check_free(holder, asset, amount, free)?;
         self.accounts.put(
             holder,
             asset,
@@ -161,9 +176,7 @@ pub impl<A: Accounts> Register for Bottom<A> as BottomRegister {
         check_account(holder, asset)?;
         check_amount(holder, asset, amount)?;
         let Balance { free, blocked } = self.accounts.balance(holder, asset);
-        if free < amount {
-            return Err(RegisterFault::untagged(RegisterCause::TooLittleFree, holder, asset));
-        }
+        check_free(holder, asset, amount, free)?;
         if blocked + amount > MOST {
             return Err(RegisterFault::untagged(RegisterCause::OverCap, holder, asset));
         }

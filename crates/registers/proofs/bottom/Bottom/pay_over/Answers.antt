@@ -2,8 +2,9 @@ use borrow.Author.Needs.{needs}
 use mathlib.Core.Path.{sym, ap, _∙_}
 use Rattle.std.specs.declared.option.Option.{Option}
 use Rattle.register.specs.declared.faults.RegisterFault.{RegisterFault}
-use Rattle.register.specs.Moves.{granted}
-use Rattle.registers.proofs.Moved.{account-known, small, pay-made, pay-room}
+use Rattle.register.specs.declared.faults.RegisterCause.the-variants.{TooLittleBlocked}
+use Rattle.register.specs.Moves.{fault, granted}
+use Rattle.registers.proofs.Moved.{covered, account-known, small, pay-made, pay-room}
 use Rattle.registers.proofs.bottom.Bottom.pay_over.Needs as need
 
 pub add-free : need.add-free
@@ -32,7 +33,7 @@ put-requires-2 g c κs =
       holder = l .holder;
       asset = l .asset;
       room = pay-room b (g .A·Accounts .book (c .put .last .self)) h a n p (c .balance-free .result) (c .balance-free-2 .result) k (c .balance-free .ensures) (c .put .ensures)
-          (c .balance-free-2 .ensures) (c .if-blocked-amount .left) (g .A·Accounts·met .bounded (c .args .self .now .accounts));
+          (c .balance-free-2 .ensures) (covered n (c .balance-free .result .blocked) (fault TooLittleBlocked h a 0) (c .in-Continue-check-blocked .field-0) (c .in-Continue-check-blocked .ensures tt)) (g .A·Accounts·met .bounded (c .args .self .now .accounts));
     }
 
 pub returns : need.returns
@@ -45,5 +46,5 @@ returns g c =
     let k = account-known h a _ (c .in-Continue-check-account .ensures tt) in
     let l = account-known p a _ (c .in-Continue-check-account-2 .ensures tt) in
     let m = pay-made b (g .A·Accounts .book (c .put .last .self)) h a n p (c .balance-free .result) (c .balance-free-2 .result) k (l .holder) (c .balance-free .ensures) (c .put .ensures)
-    (c .balance-free-2 .ensures) (c .if-blocked-amount .left) in
+    (c .balance-free-2 .ensures) (covered n (c .balance-free .result .blocked) (fault TooLittleBlocked h a 0) (c .in-Continue-check-blocked .field-0) (c .in-Continue-check-blocked .ensures tt)) in
     record { answer = ap (λ (r : Option RegisterFault). granted r tt) (sym (m .none)); after = c .put-2 .ensures ∙ m .after }
