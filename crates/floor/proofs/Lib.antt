@@ -1,0 +1,4 @@
+pub mod Agreeing
+pub mod Averaged
+pub mod Filed
+pub mod Heads

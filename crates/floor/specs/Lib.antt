@@ -1,0 +1,4 @@
+pub mod Entries
+pub mod Sheets
+pub mod Desks
+pub mod Events

@@ -1,0 +1,11 @@
+pub mod Words
+pub mod Scripts
+pub mod FullDay
+pub mod SecondDay
+pub mod Governed
+pub mod Edges
+pub mod Blocked
+pub mod Capped
+pub mod Mixed
+pub mod MixedTens
+pub mod Every
