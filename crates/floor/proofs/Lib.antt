@@ -1,4 +1,3 @@
 pub mod Agreeing
-pub mod Averaged
 pub mod Filed
 pub mod Heads

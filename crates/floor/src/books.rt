@@ -1,10 +1,8 @@
 // The books of the tickers.
 ghost use mathlib.Core.Path.{_≡_};
-ghost use Prim.Native.Nat.{_*_, _≤_};
-ghost use Rattle.rules.specs.Bids.{mostPrice};
 ghost use Rattle.model.specs.Queues.{bestPrice};
 ghost use Rattle.model.specs.Market.{other};
-ghost use Rattle.model.specs.World.{blankSheet, queueOf, averageOf};
+ghost use Rattle.model.specs.World.{blankSheet, queueOf};
 ghost use Rattle.floor.specs.Entries.{entries, hasHolder};
 ghost use Rattle.floor.specs.Sheets.{sheetOf};
 use crate::queue::Queue;
@@ -69,16 +67,5 @@ impl TickerBook {
             Side::Buy => self.sells.has_holder(holder),
             Side::Sell => self.buys.has_holder(holder),
         }
-    }
-
-    // The average price, once a lot was traded. No trade is dearer than the highest price, so the average fits.
-    pub(crate) fn average(&self) -> Option<u32>
-        requires { ⌜ now self .worth ≤ mostPrice * now self .traded ⌝ }
-        ensures { λ r. ⌜ r ≡ averageOf (sheetOf (now (self .entry))) ⌝ }
-    {
-        if self.traded == 0 {
-            return None;
-        }
-        Some((self.worth / self.traded) as u32)
     }
 }
