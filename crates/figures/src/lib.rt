@@ -2,4 +2,6 @@
 #[cfg(test)]
 mod caps;
 #[cfg(test)]
+mod lines;
+#[cfg(test)]
 mod registers_agree;

@@ -1,12 +1,3 @@
 pub mod Agreeing
-pub mod Passing
-pub mod Outlined
-pub mod Called
-pub mod Bidden
-pub mod Bargained
-pub mod TakenBack
-pub mod Starting
-pub mod Ending
-pub mod OpenedFloor
-pub mod Running
-pub mod Listed
+pub mod Filed
+pub mod Heads

@@ -1,9 +1,10 @@
 // What a floor keeps beside its register and its rule.
-use model::words::{Listing, Session};
-use queues::books::TickerBook;
+ghost use Rattle.std.specs.Prelude.{◌≡◌, length};
 
-pub(crate) mod asking;
-pub(crate) mod filing;
+use crate::books::TickerBook;
+use model::words::{Listing, Session};
+
+mod filing;
 
 // `given` counts the registration numbers of the day; the books are those of the tickers 4 to 11.
 #[derive(Clone, Copy)]
@@ -12,4 +13,5 @@ pub struct Desk {
     pub listing: Listing,
     pub given: u32,
     pub books: [TickerBook; 8],
+    ghost eight: { length books ≡ 8 },
 }

@@ -1,7 +1,9 @@
-// A trading floor: what it keeps, what each session lets run, and its calls.
+// A trading floor: its queues, its ticker books, and what each session lets run.
+pub mod books;
 pub mod desk;
 pub mod events;
-mod faults;
-pub mod floors;
 pub mod passes;
-pub mod runner;
+pub mod queue;
+pub mod rankings;
+#[cfg(test)]
+mod tests;

@@ -29,27 +29,6 @@ pub struct PostTradingPass {
     given: (),
 }
 
-impl PreTradingPass {
-    // The start of a day gives it.
-    pub(crate) fn new() -> PreTradingPass {
-        PreTradingPass { given: () }
-    }
-
-    // The opening takes it and gives the next.
-    pub(crate) fn open(self) -> TradingPass {
-        let PreTradingPass { given } = self;
-        TradingPass { given }
-    }
-}
-
-impl TradingPass {
-    // The end of trading takes it and gives the next.
-    pub(crate) fn end(self) -> PostTradingPass {
-        let TradingPass { given } = self;
-        PostTradingPass { given }
-    }
-}
-
 impl Pass for PreTradingPass {
     ghost serving = { PreTrading };
 

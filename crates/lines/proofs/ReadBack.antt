@@ -7,14 +7,14 @@ use Rattle.model.specs.declared.calls.Call.TheVariants.{Start, Deposit, Withdraw
 use Rattle.model.specs.declared.words.Bid.{Bid}
 use Rattle.model.specs.declared.words.Listing.{Listing}
 use Rattle.model.specs.declared.words.Session.{Session}
-use Rattle.script.specs.declared.commands.Command.{Command}
-use Rattle.script.specs.declared.commands.Command.TheVariants as command
-use Rattle.script.specs.declared.reading.LineFault.{LineFault}
-use Rattle.script.specs.Bids.{session_of, side_of, price_of_lem, entire_of, keep_of, take_place_lem, take_terms_lem, take_form_lem, bid_of, cancel_of}
-use Rattle.script.specs.Commands.{parsed, movement_of}
-use Rattle.script.specs.Lines.{same_word}
-use Rattle.script.specs.Listings.{take_quotes_lem, start_of}
-use Rattle.script.specs.Reading.{and_then, number_of, taken, take_account_lem, last_or, most8, most32, most64}
+use Rattle.script_calls.specs.declared.commands.Command.{Command}
+use Rattle.script_calls.specs.declared.commands.Command.TheVariants as command
+use Rattle.script_calls.specs.declared.reading.LineFault.{LineFault}
+use Rattle.script_calls.specs.Bids.{session_of, side_of, price_of_lem, entire_of, keep_of, take_place_lem, take_terms_lem, take_form_lem, bid_of, cancel_of}
+use Rattle.script_calls.specs.Commands.{parsed, movement_of}
+use Rattle.script_calls.specs.Lines.{same_word}
+use Rattle.script_calls.specs.Listings.{take_quotes_lem, start_of}
+use Rattle.script_calls.specs.Reading.{and_then, number_of, taken, take_account_lem, last_or, most8, most32, most64}
 use Rattle.lines.specs.Writing.{side_word, pass_word, price_word, fill_word, rest_word, quote_word, call_words, command_words, IsPass, PriceFits, CallFits, Fits, LinesAreReadBack}
 use Rattle.lines.proofs.Plain.{Plain, keyword, words_back}
 use Rattle.lines.proofs.Decimals.{plain-decimal, number-back}

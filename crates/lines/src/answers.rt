@@ -3,7 +3,7 @@ use model::calls::{Answer, Call};
 use model::words::{Bid, Listing, Quote, Receipt, Session, Standing, Trade};
 use register::faults::Account;
 use rules::Side;
-use script::reading::LineFault;
+use script_calls::reading::LineFault;
 use std::test::Fail;
 use telling::answers::{
     Entry, average_line, call_line, entry_line, error_line, listed_entry, session_line,

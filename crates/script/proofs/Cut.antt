@@ -1,10 +1,10 @@
 -- The first word of a text, cut off at its front.
-use Rattle.std.proofs.Common.{◌≡◌, ℕ, suc, ◌+◌, ◌-◌, ◌<◌, Bool, true, false, cond, not, List, [], ◌∷◌, length, take, drop, Some, None, Option, sym, refl, ap, ◌∙◌, inl, inr, one-add, arith}
+use Rattle.std.proofs.Common.{◌≡◌, ℕ, zero, suc, ◌+◌, ◌-◌, ◌<◌, ◌≤◌, Bool, true, false, cond, not, ◌&&◌, ◌||◌, ◌⊎◌, List, [], ◌∷◌, ◌++◌, length, take, drop, sym, refl, ap, ◌∙◌, subst, inl, inr, one-add, arith}
 use Rattle.std.specs.List.{prefix_len}
 use Rattle.std.proofs.lemmas.Slice.{between_to_end}
-use Rattle.std.proofs.lemmas.Bool.{cases_Bool, lt-ltb}
-use Rattle.script.specs.declared.words.Class.TheVariants.{Not}
-use Rattle.script.specs.Lines.{blank, in_class, in_word, before, words_of, cut_at}
+use Rattle.std.proofs.lemmas.Bool.{cases_Bool}
+use Rattle.std.proofs.lemmas.Bool.Decides.{nat_tests}
+use Rattle.script.specs.Lines.{blank, in_word, before, words_of}
 
 -- how a run at the front goes on, and how it ends
 module _ {X : Type 0} (p : X → Bool) (x : X) (xs : List X) where
@@ -97,17 +97,3 @@ module _ (cs : List ℕ) (m n : ℕ) (blanks : m ≡ prefix_len blank cs) (bytes
       ∙ ap (λ i. take i t ∷ words_of (drop i t)) (sym bytes)
       ∙ ap (λ i. take i t ∷ words_of (drop n t)) (sym z)
       ∙ ap (λ (d : List ℕ). take (n - 0) t ∷ words_of d) (sym (tail t n))
-
--- a cut at the first byte d
-module _ (d : ℕ) (w : List ℕ) (k : ℕ) (run : k ≡ prefix_len (in_class (Not d)) w) where
-  parted : ℕ → Option (List ℕ × List ℕ)
-  parted i = Some (take i w, drop (i + 1) w)
-
-  pub cut-sign : k < length w → cut_at d w ≡ Some (take (k - 0) w, take (length w - (k + 1)) (drop (k + 1) w))
-  unfolding parted
-  cut-sign l =
-      let n : ℕ = prefix_len (in_class (Not d)) w in
-      let inside : n < length w = omega (arith, run) in
-      let z : k - 0 ≡ k = omega arith in
-      ap (λ (t : Bool). cond t (parted n) None) (lt-ltb n (length w) inside) ∙ ap parted (sym run)
-      ∙ ap (λ i. Some (take i w, drop (k + 1) w)) (sym z) ∙ ap (λ (r : List ℕ). Some (take (k - 0) w, r)) (sym (tail w (k + 1)))

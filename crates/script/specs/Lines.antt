@@ -1,9 +1,8 @@
 -- A line of text as a list of words.
-use Rattle.std.specs.Prelude.{ℕ, ◌+◌, Bool, true, false, cond, not, ◌&&◌, ◌||◌, List, [], ◌∷◌, length, take, drop, Some, None, Option, ◌==◌, nat_le, nat_lt}
+use Rattle.std.specs.Prelude.{ℕ, Bool, true, false, cond, not, ◌&&◌, ◌||◌, List, [], ◌∷◌, take, ◌==◌, nat_le}
 use Rattle.std.specs.List.{prefix_len}
-use Rattle.std.specs.Str.{bytes_eq}
 use Rattle.script.specs.declared.words.Class.{Class}
-use Rattle.script.specs.declared.words.Class.TheVariants.{Blank, NotBlank, Not, Digit}
+use Rattle.script.specs.declared.words.Class.TheVariants.{Blank, NotBlank, NotHash, NotEquals, Digit}
 
 -- a blank is a space, a tab or a carriage return
 abbrev pub blank : ℕ → Bool
@@ -15,12 +14,13 @@ digit c = nat_le 48 c && nat_le c 57
 abbrev pub in_class : Class → ℕ → Bool
 in_class Blank c = blank c
 in_class NotBlank c = not (blank c)
-in_class (Not d) c = not (c == d)
+in_class NotHash c = not (c == 35)
+in_class NotEquals c = not (c == 61)
 in_class Digit c = digit c
 
 -- the line up to its first '#'
 abbrev pub uncommented : List ℕ → List ℕ
-uncommented cs = take (prefix_len (in_class (Not 35)) cs) cs
+uncommented cs = take (prefix_len (in_class NotHash) cs) cs
 
 -- whether a text goes on within a word
 abbrev pub in_word : List ℕ → Bool
@@ -37,12 +37,3 @@ before c true (w ∷ ws) = (c ∷ w) ∷ ws
 unfoldable pub words_of : List ℕ → List (List ℕ)
 words_of [] = []
 words_of (c ∷ cs) = cond (blank c) (words_of cs) (before c (in_word cs) (words_of cs))
-
--- what stands in front of the first byte d and what behind it, where there is one
-abbrev pub cut_at : ℕ → List ℕ → Option (List ℕ × List ℕ)
-cut_at d w =
-    cond (nat_lt (prefix_len (in_class (Not d)) w) (length w)) (Some (take (prefix_len (in_class (Not d)) w) w, drop (prefix_len (in_class (Not d)) w + 1) w)) None
-
--- byte for byte; shut, so that no proof takes a word apart
-unfoldable pub same_word : List ℕ → List ℕ → Bool
-same_word v w = bytes_eq v w

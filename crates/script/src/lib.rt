@@ -1,10 +1,5 @@
-// Lines of text as calls of a floor and looks at it, and the program's options.
-mod bids;
+// Calls as lines of text, and the lines that answer them.
+pub mod answers;
 pub mod commands;
-mod days;
-mod holders;
-mod listings;
-mod looks;
 pub mod options;
-pub mod reading;
-mod words;
+pub mod words;

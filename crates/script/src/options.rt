@@ -1,41 +1,31 @@
-// The program's options, word by word of its command line.
-ghost use Rattle.std.specs.Prelude.{◌≡◌};
-ghost use Rattle.script.specs.Options.{cap_of, register_of_lem, rule_of_lem, option_of, with_word_lem, complete, no_options_lem};
+ghost use Rattle.std.specs.Prelude.{◌≡◌, Ok, Err};
+ghost use Rattle.script.specs.Options.{cap_of, kind_of, option_of, with_word_lem, complete, no_options_lem};
 
-use crate::reading::{number, same};
-use crate::words::cut_at;
+use crate::commands::{number, same};
+use crate::words::{Class, run_length};
 
 const MOST: u64 = 10_000_000_000_000_000;
 
 // The kinds of register that the program can keep accounts in.
 #[derive(Clone, Copy, PartialEq, Eq, Debug)]
-pub enum RegisterKind {
+pub enum Kind {
     Table,
     List,
     Split,
 }
 
-// The market rules that the program can serve under.
-#[derive(Clone, Copy, PartialEq, Eq, Debug)]
-pub enum RuleKind {
-    Corporate,
-    Government,
-}
-
 // What the next word of the command line has to be.
-#[derive(Clone, Copy)]
+#[derive(Clone, Copy, PartialEq, Eq, Debug)]
 pub enum Due {
     Option,
     Register,
-    Rule,
     Cap,
 }
 
 // What the command line has asked for so far.
 #[derive(Clone, Copy)]
 pub struct Options {
-    pub register: RegisterKind,
-    pub rule: RuleKind,
+    pub kind: Kind,
     pub caps: [u64; 12],
     pub help: bool,
     pub due: Due,
@@ -45,7 +35,6 @@ pub struct Options {
 pub enum OptionFault {
     UnknownOption,
     UnknownRegister,
-    UnknownRule,
     BadCap,
     ValueMissing,
 }
@@ -54,52 +43,40 @@ pub enum OptionFault {
 fn cap_of(word: &[u8]) -> Result<(u8, u64), OptionFault>
     ensures { result ≡ cap_of word.now }
 {
-    let Some((asset, amount)) = cut_at(word, b'=') else {
+    let at = run_length(word, Class::NotEquals);
+    if at >= word.len() {
+        return Err(OptionFault::BadCap);
+    }
+    let Ok(asset) = number(&word[0..at], 11) else {
         return Err(OptionFault::BadCap);
     };
-    let Ok(asset) = number(asset, 11) else {
-        return Err(OptionFault::BadCap);
-    };
-    let Ok(amount) = number(amount, u64::MAX) else {
+    let Ok(amount) = number(&word[at + 1..], u64::MAX) else {
         return Err(OptionFault::BadCap);
     };
     Ok((asset as u8, amount))
 }
 
-fn register_of(word: &[u8]) -> Result<RegisterKind, OptionFault>
-    ensures { result ≡ register_of_lem word.now }
+fn kind_of(word: &[u8]) -> Result<Kind, OptionFault>
+    ensures { result ≡ kind_of word.now }
 {
     if same(word, b"table") {
-        Ok(RegisterKind::Table)
+        Ok(Kind::Table)
     } else if same(word, b"list") {
-        Ok(RegisterKind::List)
+        Ok(Kind::List)
     } else if same(word, b"split") {
-        Ok(RegisterKind::Split)
+        Ok(Kind::Split)
     } else {
         Err(OptionFault::UnknownRegister)
     }
 }
 
-fn rule_of(word: &[u8]) -> Result<RuleKind, OptionFault>
-    ensures { result ≡ rule_of_lem word.now }
-{
-    if same(word, b"corporate") {
-        Ok(RuleKind::Corporate)
-    } else if same(word, b"government") {
-        Ok(RuleKind::Government)
-    } else {
-        Err(OptionFault::UnknownRule)
-    }
-}
-
 impl Options {
-    // A table register, the corporate rule, and every cap at the most.
+    // A table register, and every cap at the most.
     pub fn none() -> Options
         ensures { result ≡ no_options_lem }
     {
         Options {
-            register: RegisterKind::Table,
-            rule: RuleKind::Corporate,
+            kind: Kind::Table,
             caps: [MOST; 12],
             help: false,
             due: Due::Option,
@@ -111,8 +88,6 @@ impl Options {
     {
         if same(word, b"--register") {
             self.due = Due::Register;
-        } else if same(word, b"--rule") {
-            self.due = Due::Rule;
         } else if same(word, b"--cap") {
             self.due = Due::Cap;
         } else if same(word, b"--help") {
@@ -130,8 +105,7 @@ impl Options {
     {
         match self.due {
             Due::Option => return self.option(word),
-            Due::Register => self.register = register_of(word)?,
-            Due::Rule => self.rule = rule_of(word)?,
+            Due::Register => self.kind = kind_of(word)?,
             Due::Cap => {
                 let (asset, amount) = cap_of(word)?;
                 self.caps[asset as usize] = amount;

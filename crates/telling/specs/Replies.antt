@@ -13,7 +13,7 @@ use Rattle.model.specs.declared.words.Session.{Session}
 use Rattle.model.specs.declared.words.Standing.{Standing}
 use Rattle.model.specs.declared.words.Trade.{Trade}
 use Rattle.telling.specs.declared.answers.Entry.{Entry}
-use Rattle.script.specs.declared.reading.LineFault.{LineFault}
+use Rattle.script_calls.specs.declared.reading.LineFault.{LineFault}
 use Rattle.telling.specs.Texts.{call_text_lem, done_text_lem, session_text_lem, floor_text_lem, rule_text_lem, register_text_lem, line_text_lem}
 
 -- who refuses and why; a register tells the account too, and the tag of the layer

@@ -12,8 +12,8 @@ use Rattle.model.specs.declared.faults.FloorRefusal.{FloorRefusal}
 use Rattle.model.specs.declared.faults.FloorRefusal.TheVariants as floor
 use Rattle.model.specs.declared.words.Session.{Session}
 use Rattle.model.specs.declared.words.Session.TheVariants.{Closed, PreTrading, Trading, PostTrading}
-use Rattle.script.specs.declared.reading.LineFault.{LineFault}
-use Rattle.script.specs.declared.reading.LineFault.TheVariants as line
+use Rattle.script_calls.specs.declared.reading.LineFault.{LineFault}
+use Rattle.script_calls.specs.declared.reading.LineFault.TheVariants as line
 
 abbrev pub call_text_lem : CallKind → List ℕ
 call_text_lem kind.Start = codes "start"

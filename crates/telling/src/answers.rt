@@ -9,7 +9,7 @@ use model::calls::{Answer, Call};
 use model::faults::{Cause, Fault};
 use model::words::{Receipt, Session, Standing, Trade};
 use register::faults::{Account, RegisterFault};
-use script::reading::LineFault;
+use script_calls::reading::LineFault;
 use std::alloc::{AllocError, Global};
 
 // One holder's account of one asset.

@@ -7,7 +7,7 @@ use model::faults::{CallKind, FloorRefusal};
 use model::words::Session;
 use register::faults::RegisterCause;
 use rules::RuleRefusal;
-use script::reading::LineFault;
+use script_calls::reading::LineFault;
 
 // The call that a refusal names.
 pub(crate) fn call_text(call: CallKind) -> &'static str

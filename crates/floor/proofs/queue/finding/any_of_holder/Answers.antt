@@ -1,0 +1,12 @@
+use Rattle.std.proofs.Common.{rules}
+use Rattle.floor.proofs.Heads.{any_here, any-later, any-end}
+use Rattle.floor.proofs.queue.finding.any_of_holder.Goals as goal
+
+pub returns-then-is-of : goal.returns-then-is-of
+returns-then-is-of c = search (rules, any_here)
+
+pub loop-i-preserved : goal.loop-i-preserved
+loop-i-preserved c = search (rules, any-later)
+
+pub returns : goal.returns
+returns c = search (rules, any-end)

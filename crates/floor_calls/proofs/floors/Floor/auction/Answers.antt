@@ -1,0 +1,83 @@
+use Rattle.std.proofs.Common.{◌≡◌, ℕ, ◌≤◌, true, leb, List, length, sym, refl, ap, ◌∙◌, subst, arith}
+use Rattle.std.proofs.lemmas.Bool.Decides.{nat_tests}
+use Rattle.std.proofs.lemmas.Result.{err_from_is_err_and}
+use Rattle.model.specs.declared.calls.Call.TheVariants.{Open}
+use Rattle.model.specs.declared.faults.Cause.TheVariants.{Floor as ByFloor}
+use Rattle.model.specs.declared.faults.FloorRefusal.{FloorRefusal}
+use Rattle.model.specs.declared.faults.FloorRefusal.TheVariants.{WrongSession, ShortStrip}
+use Rattle.model.specs.Market.{opening_room}
+use Rattle.model.specs.Calls.{trades_made}
+use Rattle.model.proofs.Auction.{is-pre}
+use Rattle.auction.proofs.Readying.{ready-to-open}
+use Rattle.floor_calls.specs.declared.events.Event.TheVariants as event
+use Rattle.floor_calls.specs.Floors.{seen}
+use Rattle.floor_calls.proofs.Passing.{kept-met, kept-not, allowed-met, allowed-not}
+use Rattle.floor_calls.proofs.Called.{after-refused, after-taken, refused-result, taken-result, refused-strip, taken-strip}
+use Rattle.floor_calls.proofs.OpenedFloor.{session-refuses, strip-refuses, open-taken, none-fair}
+use Rattle.floor_calls.proofs.floors.Floor.auction.Goals as goal
+
+pub returns-in-err-session : goal.returns-in-err-session
+returns-in-err-session g c =
+    let a = c.args in
+    let r = g.M.MarketRule.means a.self.now.rule in
+    let w = seen g.R.Register.means a.self.now in
+    let room = length a.strip.now in
+    let p = err_from_is_err_and c.from-residual.result c.from-residual.ensures.1 in
+    let not = allowed-not w.session event.Open c.in-err-session.field-0.0 c.in-err-session.ensures in
+    let no = session-refuses r w room not.0 in
+    record {
+      answer = refused-result r w (Open room) (length (trades_made w (Open room))) c.from-residual.result p.0 (ByFloor WrongSession) no p.1 (p.2 ∙ ap (λ (e : FloorRefusal). ByFloor e) not.1);
+      world = sym (after-refused r w (Open room) (ByFloor WrongSession) no);
+      strip = refused-strip r w (Open room) (ByFloor WrongSession) a.strip.now no;
+      rule = refl;
+      eight = c.requires.eight;
+      fair = none-fair w c.from-residual.result p.0 a.strip.now p.1;
+    }
+
+pub returns-in-err-check : goal.returns-in-err-check
+returns-in-err-check g c =
+    let a = c.args in
+    let r = g.M.MarketRule.means a.self.now.rule in
+    let w = seen g.R.Register.means a.self.now in
+    let room = length a.strip.now in
+    let p = err_from_is_err_and c.from-residual-in-err-check.result c.from-residual-in-err-check.ensures.1 in
+    let ok = allowed-met w.session event.Open _ c.in-ok-session.ensures in
+    let not = kept-not _ ShortStrip c.in-err-check.field-0.0 c.in-err-check.ensures in
+    let no = strip-refuses r w room ok.0 not.0 in
+    record {
+      answer = refused-result r w (Open room) (length (trades_made w (Open room))) c.from-residual-in-err-check.result p.0 (ByFloor ShortStrip) no p.1 (p.2 ∙ ap (λ (e : FloorRefusal). ByFloor e) not.1);
+      world = sym (after-refused r w (Open room) (ByFloor ShortStrip) no);
+      strip = refused-strip r w (Open room) (ByFloor ShortStrip) a.strip.now no;
+      rule = refl;
+      eight = c.requires.eight;
+      fair = none-fair w c.from-residual-in-err-check.result p.0 a.strip.now p.1;
+    }
+
+pub open-books-count-requires : goal.open-books-count-requires
+open-books-count-requires g c =
+    let a = c.args in
+    let r = g.M.MarketRule.means a.self.now.rule in
+    let w = seen g.R.Register.means a.self.now in
+    let room = length a.strip.now in
+    let ok = allowed-met w.session event.Open _ c.in-ok-session.ensures in
+    let long : leb opening_room room ≡ true = kept-met _ _ _ c.in-ok-check.ensures in
+    let yes = open-taken r w room ok.0 long in
+    record { eight = c.requires.eight; room = grind (arith, nat_tests); ready = ready-to-open r w c.requires.sound (is-pre r w room yes) }
+
+pub returns : goal.returns
+returns g c =
+    let a = c.args in
+    let r = g.M.MarketRule.means a.self.now.rule in
+    let w = seen g.R.Register.means a.self.now in
+    let room = length a.strip.now in
+    let ok = allowed-met w.session event.Open _ c.in-ok-session.ensures in
+    let yes = open-taken r w room ok.0 (kept-met _ _ _ c.in-ok-check.ensures) in
+    let e = c.open-books-count.ensures in
+    record {
+      answer = taken-result r w (Open room) (length (trades_made w (Open room))) c.open-books-count.result yes e.count;
+      world = (λ i. record { book = e.book i; session = ok.1 i; listing = w.listing; given = w.given; sheets = e.sheets i }) ∙ sym (after-taken r w (Open room) yes);
+      strip = taken-strip r w (Open room) a.strip.now c.open-books-count.new.strip yes e.strip;
+      rule = refl;
+      eight = c.open-books-count.auto.books ∙ c.requires.eight;
+      fair = e.fair;
+    }

@@ -1,0 +1,15 @@
+// What a floor keeps beside its register and its rule.
+use model::words::{Listing, Session};
+use queues::books::TickerBook;
+
+pub(crate) mod asking;
+pub(crate) mod filing;
+
+// `given` counts the registration numbers of the day; the books are those of the tickers 4 to 11.
+#[derive(Clone, Copy)]
+pub struct Desk {
+    pub session: Session,
+    pub listing: Listing,
+    pub given: u32,
+    pub books: [TickerBook; 8],
+}

@@ -1,0 +1,95 @@
+ghost use Rattle.std.specs.Prelude.{◌≡◌, ℕ, ◌<◌, length, ◌==◌};
+ghost use Rattle.register.specs.Books.{Book, sum_to};
+ghost use Rattle.model.specs.Words.{all_of};
+ghost use Rattle.model.specs.Checks.{nothing_blocked};
+ghost use Rattle.model.specs.World.{made};
+ghost use Rattle.model.specs.Calls.{new_day};
+ghost use Rattle.queues.specs.Sheets.{sheets_of};
+ghost use Rattle.floor_calls.specs.Desks.{world_of, valid_quote};
+
+use super::Desk;
+use model::words::{Listing, Quote, Session};
+use queues::books::TickerBook;
+use register::registers::Register;
+
+impl Desk {
+    // The desk of a floor that is made: closed, with no day behind it.
+    pub fn closed() -> Desk
+        ensures made { (book : Book) → world_of book result ≡ made book }
+        ensures eight { length result.books ≡ 8 }
+    {
+        let none = Quote {
+            currency: 0,
+            settlement: 0,
+        };
+        Desk {
+            session: Session::Closed,
+            listing: Listing { quotes: [none; 8] },
+            given: 0,
+            books: [TickerBook::blank(); 8],
+        }
+    }
+}
+
+// Whether each line has a currency and, where it has one, a settlement price within the limits.
+pub fn are_valid(quotes: &[Quote]) -> bool
+    ensures { result ≡ all_of valid_quote quotes.now }
+{
+    for quote in quotes {
+        if !is_valid(quote) {
+            return false;
+        }
+    }
+    true
+}
+
+fn is_valid(quote: &Quote) -> bool
+    ensures { result ≡ valid_quote quote.now }
+{
+    quote.currency <= 3 && quote.settlement <= 10_000_000
+}
+
+// What a holder has blocked of an asset.
+fn blocked<R: Register>(register: &R, holder: u8, asset: u8) -> u64
+    requires { (holder < 16) × (asset < 12) }
+    ensures { result ≡ (R.Register.means register.now).blocked holder asset }
+{
+    match register.read(holder, asset) {
+        Ok(account) => account.blocked,
+        Err(_) => unreachable(),
+    }
+}
+
+// Whether a holder has nothing blocked.
+fn is_free<R: Register>(register: &R, holder: u8) -> bool
+    requires { holder < 16 }
+    ensures { result ≡ (sum_to 12 (λ a. (R.Register.means register.now).blocked holder a) == 0) }
+{
+    for asset in 0..12 {
+        if blocked(register, holder, asset) > 0 {
+            return false;
+        }
+    }
+    true
+}
+
+// Whether nothing is blocked at a register.
+pub fn is_quiet<R: Register>(register: &R) -> bool
+    ensures { result ≡ nothing_blocked (R.Register.means register.now) }
+{
+    for holder in 0..16 {
+        if !is_free(register, holder) {
+            return false;
+        }
+    }
+    true
+}
+
+// A new day for every ticker: no trade counts yet.
+pub fn start_books(books: &mut [TickerBook])
+    ensures { sheets_of books.new ≡ (λ (t : ℕ). new_day (sheets_of books.old t)) }
+{
+    for book in books.iter_mut() {
+        book.start_day();
+    }
+}

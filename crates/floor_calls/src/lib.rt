@@ -1,0 +1,7 @@
+// A trading floor: what it keeps, what each session lets run, and its calls.
+pub mod desk;
+pub mod events;
+mod faults;
+pub mod floors;
+pub mod passes;
+pub mod runner;

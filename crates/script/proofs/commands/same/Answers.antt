@@ -1,0 +1,10 @@
+use Rattle.std.proofs.Common.{rules}
+use Rattle.std.proofs.lemmas.Slice.Eq.{slice_eq-Decides, bytes_eq-Decides}
+use Rattle.script.proofs.commands.same.Goals as goal
+use Rattle.std.proofs.lemmas.Bool.Decides.{Decides-eqb}
+
+pub returns : goal.returns
+returns c =
+    let d = slice_eq-Decides Decides-eqb _ _ _ c.eq.ensures in
+    let s = bytes_eq-Decides c.args.word.now c.args.other.now in
+    search rules

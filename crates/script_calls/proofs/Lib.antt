@@ -1,0 +1,4 @@
+pub mod Cut
+pub mod Digits
+pub mod Picked
+pub mod Quotes
