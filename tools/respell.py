@@ -14,6 +14,7 @@ import sys
 TABLE = """
 A-trade-moves ATradeMoves
 Account-known AccountKnown
+Account-shown AccountShown
 Accounts-come-out AccountsComeOut
 Accounts-stay-within AccountsStayWithin
 Always-sound AlwaysSound
@@ -24,6 +25,7 @@ Bad-line BadLine
 Bid-law BidLaw
 Bids-are-right BidsAreRight
 Bids-refused-by BidsRefusedBy
+Block-refused BlockRefused
 Calls-keep-sound CallsKeepSound
 Cancels-take-own CancelsTakeOwn
 Comes-out ComesOut
@@ -67,6 +69,7 @@ Opened-fairly OpenedFairly
 Opened-well OpenedWell
 Opening-clears OpeningClears
 Opening-price-is-best OpeningPriceIsBest
+Others-refused OthersRefused
 Price-then-time PriceThenTime
 Queues-stay-ranked QueuesStayRanked
 Ranked-queues RankedQueues
@@ -102,6 +105,7 @@ afterParsed after_parsed
 afterTrade after_trade
 all-else all_else
 all-from-insertRanked all-from-insert_ranked
+all-given all_given
 all-insertRanked all-insert_ranked
 all-keptAs all-kept_as
 all-stands all_stands
@@ -122,6 +126,9 @@ averageOf average_of
 averageOfBoth average_of_both
 averagePrice average_price_lem
 averageText average_text
+bad-form bad_form
+bad-lots bad_lots
+bad-price bad_price
 balanceAt balance_at
 balanceIn balance_in
 balanceOf balance_of
@@ -153,6 +160,8 @@ buys-served buys_served
 buys-whole buys_whole
 buysFrom buys_from
 buysOf buys_of
+by-lower by_lower
+by-upper by_upper
 byNumber by_number
 byPrice by_price
 byRegister by_register
@@ -220,6 +229,7 @@ formChecks form_checks
 formTaken form_taken
 freedFrom freed_from
 freeingBy freeing_by
+fullDay full_day
 handedBack handed_back
 hasAverage has_average_lem
 hasHolder has_holder_lem
@@ -227,6 +237,7 @@ hasPlace has_place_lem
 heldIn held_in
 heldTo held_to
 hit-new hit_new
+holder-ticker holder_ticker
 holderCall holder_call_lem
 holderIn holder_in
 holderKnown holder_known_lem
@@ -278,9 +289,11 @@ lotsEach lots_each
 lotsOf lots_of
 lotsTaken lots_taken
 lotsWhere lots_where
+lowerTag lower_tag
 marketFigures market_figures
 metBy met_by
 mineOf mine_of
+mixedTens mixed_tens
 moneyOf money_of
 mostAmount most_amount
 mostLots most_lots
@@ -298,20 +311,33 @@ nextDeal next_deal
 nextNumber next_number
 no-account no_account
 no-average no_average
+no-currency no_currency
 no-queue no_queue
+no-settlement no_settlement
 noColon no_colon
 noEntry no_entry
 noHash no_hash
 noListing no_listing
 noOptions no_options_lem
 noQuote no_quote
+not-admitted not_admitted
+not-blocked not_blocked
 not-closed not_closed
+not-deposited not_deposited
+not-post-trading not_post_trading
+not-pre-trading not_pre_trading
+not-standing not_standing
+not-that-pass not_that_pass
+not-trading not_trading
 not-whole not_whole
+not-withdrawn not_withdrawn
 nothingBlocked nothing_blocked
 numbersIn numbers_in
 numbersOf numbers_of
 obligationNumber obligation_number
 obligationOf obligation_of
+of-buys of_buys
+of-sells of_sells
 ofTicker of_ticker
 off-best off_best
 off-settlement off_settlement
@@ -334,6 +360,9 @@ orNext or_next
 orSell or_sell
 other-side other_side
 other-tickers other_tickers
+over-lower over_lower
+over-neither over_neither
+over-upper over_upper
 owedBy owed_by
 owedIn owed_in
 pairDeal pair_deal
@@ -368,12 +397,14 @@ registerOf register_of_lem
 registerText register_text_lem
 replyText reply_text
 restWord rest_word
+room-enough room_enough
 roomOf room_of_lem
 ruleOf rule_of_lem
 ruleText rule_text_lem
 runsIn runs_in
 sameSide same_side
 sameWord same_word
+secondDay second_day
 sells-conserved sells_conserved
 sells-few sells_few
 sells-lots sells_lots
@@ -395,6 +426,8 @@ sheetOwing sheet_owing
 sheetWith sheet_with
 sheetsOf sheets_of
 shellFigures shell_figures
+short-strip short_strip
+shorter-strip shorter_strip
 sideWord side_word
 slipFor slip_for
 spentOn spent_on
@@ -444,7 +477,9 @@ tradesAt trades_at
 tradesIn trades_in
 tradesMade trades_made
 tradesOf trades_of
+unknown-there unknown_there
 unlessBuy unless_buy
+upperTag upper_tag
 usedBy used_by
 usedOf used_of
 validListing valid_listing
@@ -464,6 +499,7 @@ withSheet with_sheet
 withWord with_word_lem
 withinLimits within_limits
 worldOf world_of
+wrong-pass wrong_pass
 """
 
 # what port.py wrote for the library's two relations on lists
@@ -482,7 +518,8 @@ def turned(text, names):
 def code_of_antt(line):
     at = re.search(r"(?:^|\s)--(?:\s|$)", line)
     cut = at.start() if at else len(line)
-    return turned(line[:cut], NAMES) + turned(line[cut:], SAFE)
+    parts = re.split(r'("[^"]*")', line[:cut])
+    return "".join(it if it.startswith('"') else turned(it, NAMES) for it in parts) + turned(line[cut:], SAFE)
 
 
 RUST = re.compile(r"(?P<comment>//.*)|(?P<text>b?\"(?:[^\"\\\n]|\\.)*\")|(?P<char>b?'(?:[^'\\\n]|\\.)')")
@@ -522,7 +559,7 @@ def kinds(path):
 def main(root):
     for top in ("crates", "docs", "tests", "README.md"):
         start = os.path.join(root, top)
-        paths = [start] if os.path.isfile(start) else [os.path.join(d, f) for d, _, fs in os.walk(start) if "/out" not in d for f in fs]
+        paths = [start] if os.path.isfile(start) else [os.path.join(d, f) for d, _, fs in os.walk(start) if "out" not in d.split(os.sep) for f in fs]
         for path in sorted(paths):
             turn = kinds(path)
             if not turn:

@@ -1,4 +1,4 @@
-"""Runs the scripts through floor.py and writes them, with what it worked out, as the crate `runs`'s specs."""
+"""Runs the scripts through floor.py and writes them, with what it worked out, as the crate `runs`'s specs. `rt fmt` and `rt tidy` then lay them out."""
 import collections, os, sys
 from floor import FLOOR, RULE, REG, Floor, Tally, run
 import floor as F
@@ -81,17 +81,18 @@ def main():
         stand = [(k["number"], k["lots"]) for k in tally.standing] if tally else []
         start = f"edge" if special else f"made ({reg.spec})"
         body = [f"-- {text}",
-                "use Rattle·runs·specs.Words.{ℕ, true, false, List, [], _∷_, Some, None, Buy, Sell, Closed, PreTrading, Trading, PostTrading, ByFloor, ByRule, ByRegister}",
-                "use Rattle·runs·specs.Words.{BadListing, SomethingBlocked, WrongSession, ShortStrip, NoHolderOrTicker, BeyondLimits, FormNotTaken, NoAverage, NumbersSpent, QueueFull, NoSuchBid}",
-                "use Rattle·runs·specs.Words.{NotWholeSteps, OffBest, OffSettlement, OppositeBid, NoAccount, BadAmount, OverTotal, TooLittleFree, OverCap}",
-                "use Rattle·runs·specs.Words.{Start, Deposit, Withdraw, Place, Cancel, Open, EndTrading, EndPostTrading, Done, Cancelled, Opened}",
-                "use Rattle·model.specs.declared.faults.CallKind.the-variants as kind",
-                "use Rattle·model.specs.Tally.{Entry}",
-                "use Rattle·model.specs.World.{made}",
-                "use Rattle·register.specs.Books.{mostAmount}",
-                "use Rattle·register.specs.Moves.{fault}",
-                "use Rattle·rules.specs.Rules.{corporate, government}",
-                "use Rattle·runs·specs.Scripts.{Script, Account, Queue, plenty, edge, quote, listing, bid, partial, entire, keep, withdraw, on, placed, refused, trade, account, queue, stands, Sums, sums, Left, left}",
+                "use Rattle.std.specs.Prelude.{◌∷◌}",
+                "use Rattle.runs.specs.Words.{ℕ, true, false, List, [], Some, None, Buy, Sell, Closed, PreTrading, Trading, PostTrading, ByFloor, ByRule, ByRegister}",
+                "use Rattle.runs.specs.Words.{BadListing, SomethingBlocked, WrongSession, ShortStrip, NoHolderOrTicker, BeyondLimits, FormNotTaken, NoAverage, NumbersSpent, QueueFull, NoSuchBid}",
+                "use Rattle.runs.specs.Words.{NotWholeSteps, OffBest, OffSettlement, OppositeBid, NoAccount, BadAmount, OverTotal, TooLittleFree, OverCap}",
+                "use Rattle.runs.specs.Words.{Start, Deposit, Withdraw, Place, Cancel, Open, EndTrading, EndPostTrading, Done, Cancelled, Opened}",
+                "use Rattle.model.specs.declared.faults.CallKind.TheVariants as kind",
+                "use Rattle.model.specs.Tally.{Entry}",
+                "use Rattle.model.specs.World.{made}",
+                "use Rattle.register.specs.Books.{most_amount}",
+                "use Rattle.register.specs.Moves.{fault}",
+                "use Rattle.rules.specs.Rules.{corporate, government}",
+                "use Rattle.runs.specs.Scripts.{Script, Account, Queue, plenty, edge, quote, listing, bid, partial, entire, keep, withdraw, on, placed, refused, trade, account, queue, stands, Sums, sums, Left, left}",
                 "", "abbrev entries : List Entry", "entries ="]
         es = [entry(e) for e in out]
         body += ["    " + es[0]] + ["    ∷ " + e for e in es[1:]] + ["    ∷ []"]
@@ -99,10 +100,10 @@ def main():
         body += ["    " + lst([f"account {' '.join(map(str, r))}" for r in rows], "\n    ∷ ")]
         body += ["", "abbrev queues : List Queue", "queues ="]
         body += ["    " + lst([f"queue {t} {s} (" + lst([f"stands {b[0]} {b[1]} {b[2]} {b[3]}" for b in q]) + ")" for t, s, q in shown], "\n    ∷ ")] if len(queues) and not special else ["    []"]
-        body += ["", "-- ticker, what its trades cost and their lots, on the floor and by the tally", "abbrev sumsOfTrades : List Sums", "sumsOfTrades = " + lst([f"sums {' '.join(map(str, r))}" for r in sums])]
+        body += ["", "-- ticker, what its trades cost and their lots, on the floor and by the tally", "abbrev sums_of_trades : List Sums", "sums_of_trades = " + lst([f"sums {' '.join(map(str, r))}" for r in sums])]
         body += ["", "-- the standing bids by the tally: number and lots left", "abbrev standing : List Left", "standing = " + lst([f"left {a} {b}" for a, b in stand])]
         body += ["", "abbrev pub script : Script",
-                 f"script = record {{ rule = {rule.__name__}; start = {start}; entries = entries; accounts = accounts; queues = queues; sums = sumsOfTrades; standing = standing; running = {boo(tally.running if tally else False)} }}"]
+                 f"script = record {{ rule = {rule.__name__}; start = {start}; entries = entries; accounts = accounts; queues = queues; sums = sums_of_trades; standing = standing; running = {boo(tally.running if tally else False)} }}"]
         path = os.path.join(OUT, name + ".antt")
         open(path, "w").write("\n".join(body) + "\n")
         names.append(name)

@@ -15,7 +15,7 @@ def place(shown, *a, room=64, **k): return ("Place", shown, bid(*a, **k), room)
 def plenty(blocked=0, cap=None, tag=0, each=100_000):
     r = Register({(h, a): each for h in range(4) for a in range(12)}, {(1, 5): blocked} if blocked else {},
                  (lambda h, a: cap if cap is not None and a == 2 else MAXA), (lambda h, a, n: tag))
-    r.spec = f"plenty {each} {blocked} {cap if cap is not None else 'mostAmount'} {tag}"
+    r.spec = f"plenty {each} {blocked} {cap if cap is not None else 'most_amount'} {tag}"
     return r
 
 

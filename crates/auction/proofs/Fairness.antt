@@ -1,6 +1,6 @@
 -- What an opening promises, of a world that is ready for it.
 use Rattle.std.proofs.Common.{◌≡◌, ℕ, ◌+◌, ◌≤◌, min, Bool, true, cond, eqb, List, [], ◌∷◌, ◌++◌, length, Some, None, Option, sym, refl, ap, ◌∙◌, subst, inl, inr, arith}
-use Rattle.std.specs.List.{flat_map, AllByRecursion as All}
+use Rattle.std.specs.List.{flat_map, AllByRecursion}
 use Rattle.std.proofs.lemmas.List.{append-nil, length-map}
 use Rattle.std.proofs.ByRecursion.{All-weaker}
 use Rattle.std.proofs.lemmas.Bool.{cases_eq, eq-eqb, ne_eqb}
@@ -27,15 +27,15 @@ use Rattle.auction.specs.Fair.{of_ticker, OpenedFairly}
 of-append : (t : ℕ) (xs ys : List Trade) → of_ticker t (xs ++ ys) ≡ of_ticker t xs ++ of_ticker t ys
 of-append t xs ys = joined-append (λ x. only (eqb x.ticker t) x) xs ys
 
-of-own : (t : ℕ) (xs : List Trade) → All (λ x. x.ticker ≡ t) xs → of_ticker t xs ≡ xs
+of-own : (t : ℕ) (xs : List Trade) → AllByRecursion (λ x. x.ticker ≡ t) xs → of_ticker t xs ≡ xs
 of-own t [] a = refl
 of-own t (x ∷ xs) a = ap (λ (b : Bool). only b x ++ of_ticker t xs) (eq-eqb x.ticker t a.0) ∙ ap (λ (z : List Trade). x ∷ z) (of-own t xs a.1)
 
-of_other : (t u : ℕ) (xs : List Trade) → (u ≡ t → ⊥) → All (λ x. x.ticker ≡ u) xs → of_ticker t xs ≡ []
+of_other : (t u : ℕ) (xs : List Trade) → (u ≡ t → ⊥) → AllByRecursion (λ x. x.ticker ≡ u) xs → of_ticker t xs ≡ []
 of_other t u [] ne a = refl
 of_other t u (x ∷ xs) ne a = ap (λ (b : Bool). only b x ++ of_ticker t xs) (ne_eqb x.ticker t (λ e. ne (sym a.0 ∙ e))) ∙ of_other t u xs ne a.1
 
-module _ (X : ℕ → List Trade) (own : (t : ℕ) → All (λ x. x.ticker ≡ t) (X t)) (t : ℕ) where
+module _ (X : ℕ → List Trade) (own : (t : ℕ) → AllByRecursion (λ x. x.ticker ≡ t) (X t)) (t : ℕ) where
   of_none : (ts : List ℕ) → sum_of (λ u. cond (eqb u t) 1 0) ts ≡ 0 → of_ticker t (flat_map X ts) ≡ []
   of_none [] e = refl
   of_none (u ∷ ts) e =
@@ -71,11 +71,11 @@ module _ (w : World) (ready : ReadyToOpen w) where
   unfolding opening
   nothing t e = ap (λ (o : Option ℕ). trades_of (opening_at t o (queue w t Buy) (queue w t Sell)).deals) e
 
-  own-trades : (t : ℕ) → All (λ x. x.ticker ≡ t) (trades_of (opened_at w t).deals)
+  own-trades : (t : ℕ) → AllByRecursion (λ x. x.ticker ≡ t) (trades_of (opened_at w t).deals)
   own-trades t = by (opening_price_lem (queue w t Buy) (queue w t Sell)) refl
     where
-      by : (o : Option ℕ) → opening_price_lem (queue w t Buy) (queue w t Sell) ≡ o → All (λ x. x.ticker ≡ t) (trades_of (opened_at w t).deals)
-      by None e = subst (All (λ x. x.ticker ≡ t)) (sym (nothing t e)) tt
+      by : (o : Option ℕ) → opening_price_lem (queue w t Buy) (queue w t Sell) ≡ o → AllByRecursion (λ x. x.ticker ≡ t) (trades_of (opened_at w t).deals)
+      by None e = subst (AllByRecursion (λ x. x.ticker ≡ t)) (sym (nothing t e)) tt
       by (Some o) e = All-weaker (λ x. (x.ticker ≡ t) × (x.price ≡ o)) (λ x. x.ticker ≡ t) (λ x h. h.0) (trades_of (opened_at w t).deals) (well t o e).price
 
   -- at most as many trades as bids stood
@@ -103,6 +103,6 @@ module _ (w : World) (ready : ReadyToOpen w) where
       record {
         most = λ p. most p (opening_price_lem (queue w t Buy) (queue w t Sell)) refl;
         smaller = smaller;
-        price = λ o e. subst (All (λ x. x.price ≡ o)) (sym same) (All-weaker (λ x. (x.ticker ≡ t) × (x.price ≡ o)) (λ x. x.price ≡ o) (λ x h. h.1) (trades_of (opened_at w t).deals) (well t o e).price);
+        price = λ o e. subst (AllByRecursion (λ x. x.price ≡ o)) (sym same) (All-weaker (λ x. (x.ticker ≡ t) × (x.price ≡ o)) (λ x. x.price ≡ o) (λ x h. h.1) (trades_of (opened_at w t).deals) (well t o e).price);
         none = λ e. same ∙ nothing t e;
       }

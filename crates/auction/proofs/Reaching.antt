@@ -1,6 +1,6 @@
 -- The lots of the first places of a queue, and how far a ranked queue reaches a price.
 use Rattle.std.proofs.Common.{◌≡◌, ℕ, zero, suc, ◌+◌, ◌-◌, ◌<◌, Bool, true, false, cond, not, List, [], ◌∷◌, length, get_or, take, sym, refl, ap, ◌∙◌, arith}
-use Rattle.std.specs.List.{between, AllByRecursion as All}
+use Rattle.std.specs.List.{between, AllByRecursion}
 use Rattle.std.proofs.lemmas.List.{take_all}
 use Rattle.std.proofs.ByRecursion.{All-weaker}
 use Rattle.std.proofs.lemmas.Bool.Decides.{nat_tests}
@@ -34,7 +34,7 @@ unfolding demand supply
 volume-more Buy p x xs = refl
 volume-more Sell p x xs = refl
 
-volume-none : (side : Side) (p : ℕ) (xs : List Standing) → All (λ x. reaches_at side p x ≡ false) xs → volume_of side xs p ≡ 0
+volume-none : (side : Side) (p : ℕ) (xs : List Standing) → AllByRecursion (λ x. reaches_at side p x ≡ false) xs → volume_of side xs p ≡ 0
 unfolding demand supply
 volume-none Buy p [] a = refl
 volume-none Sell p [] a = refl

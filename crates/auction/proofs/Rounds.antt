@@ -1,7 +1,7 @@
 -- The opening ticker by ticker: what is left to do gives, beside what is done, what the whole gives.
 use Rattle.std.proofs.Common.{◌≡◌, ℕ, zero, suc, ◌+◌, ◌-◌, ◌*◌, ◌<◌, ◌≤◌, Bool, true, false, cond, ◌&&◌, eqb, ltb, ◌⊎◌, List, [], ◌∷◌, ◌++◌, map, length, get_or, take, drop, set, sym, refl, ap, ◌∙◌, subst, inl, inr, arith}
 use mathlib.Core.Path.{fun_ext}
-use Rattle.std.specs.List.{flat_map as joined, AllByRecursion as All}
+use Rattle.std.specs.List.{flat_map as joined, AllByRecursion}
 use Rattle.std.proofs.lemmas.List.{length-append, length-map, length-take, take_at}
 use Rattle.std.proofs.lemmas.Bool.{cond-true, cond-false, cond_both, cases_Bool, eqb-true, and_from, lt-ltb}
 use Rattle.std.proofs.lemmas.Bool.Decides.{nat_tests}
@@ -47,7 +47,7 @@ few-queued books t side =
     cond_both (ticker_known t) (get_or (map sheet_of books) (t - 4) blank_sheet) blank_sheet (λ s. length (queue_of s side) ≤ 64) (λ _. few_on books (t - 4) side) (λ _. few_on [] 0 side)
 
 -- so a ticker has at most 128 trades, and eight have at most 1,024
-joined-few : (f : ℕ → List Trade) (ts : List ℕ) → All (λ t. length (f t) ≤ 128) ts → length (joined f ts) ≤ 128 * length ts
+joined-few : (f : ℕ → List Trade) (ts : List ℕ) → AllByRecursion (λ t. length (f t) ≤ 128) ts → length (joined f ts) ≤ 128 * length ts
 joined-few f [] a = omega arith
 joined-few f (t ∷ ts) a = omega (arith, joined-few f ts a.1, length-append (f t) (joined f ts), a.0)
 

@@ -1,6 +1,6 @@
 -- An opening at a price, trade by trade: with the next deal of a sheet it goes on from what the deal leaves, and without one it is over.
 use Rattle.std.proofs.Common.{◌≡◌, ℕ, ◌-◌, ◌<◌, ◌≤◌, min, Bool, true, false, cond, ◌&&◌, ltb, leb, List, [], ◌∷◌, ◌++◌, Some, None, Option, sym, refl, ap, ◌∙◌, subst, inl, inr, arith}
-use Rattle.std.specs.List.{AllByRecursion as All}
+use Rattle.std.specs.List.{AllByRecursion}
 use Rattle.std.proofs.ByRecursion.{All-weaker}
 use Rattle.std.proofs.lemmas.Bool.{cond-true, cond-false, and_from, lt-ltb, le-ltb, le-leb, lt-leb, cases_order}
 use Rattle.std.proofs.lemmas.Bool.Decides.{nat_tests}
@@ -17,7 +17,7 @@ use Rattle.queues.specs.Entries.{first_of, lots_taken}
 use Rattle.auction.specs.Pairs.{pair_of, deal_of, next_deal, traded_on}
 
 abbrev pub Lots : List Standing → Type 0
-Lots q = All (λ x. 1 ≤ x.lots) q
+Lots q = AllByRecursion (λ x. 1 ≤ x.lots) q
 
 -- a deal in front of others
 abbrev pub in_front : Deal → Opened → Opened
@@ -105,7 +105,7 @@ module _ (t p : ℕ) where
     ]
 
   -- ---- no sell reaches the price: nothing changes
-  at_rest : (buys sells : List Standing) → Lots buys → All (λ s. leb s.price p ≡ false) sells → uncross t p buys sells ≡ unopened buys sells
+  at_rest : (buys sells : List Standing) → Lots buys → AllByRecursion (λ s. leb s.price p ≡ false) sells → uncross t p buys sells ≡ unopened buys sells
   unfolding uncross
   at_rest [] sells a h = refl
   at_rest (b ∷ buys) sells a h = step (leb p b.price) (at_rest buys sells a.1 h)

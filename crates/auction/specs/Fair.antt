@@ -1,6 +1,6 @@
 -- What an opening promises those who bid, read off the trades on its strip.
 use Rattle.std.specs.Prelude.{◌≡◌, ℕ, ◌≤◌, min, List, [], Some, None, nat_eq}
-use Rattle.std.specs.List.{AllByRecursion as All}
+use Rattle.std.specs.List.{AllByRecursion}
 use Rattle.rules.specs.declared.bid.Side.TheVariants.{Buy, Sell}
 use Rattle.model.specs.declared.words.Standing.{Standing}
 use Rattle.model.specs.declared.words.Trade.{Trade}
@@ -19,7 +19,7 @@ pub record Fair (buys sells : List Standing) (xs : List Trade) : Type 0 where
   pub most : (p : ℕ) → min (demand buys p) (supply sells p) ≤ lots_of xs
   -- the smaller of demand and supply at the opening price has traded, all at that price
   pub smaller : (o : ℕ) → opening_price_lem buys sells ≡ Some o → lots_of xs ≡ min (demand buys o) (supply sells o)
-  pub price : (o : ℕ) → opening_price_lem buys sells ≡ Some o → All (λ x. x.price ≡ o) xs
+  pub price : (o : ℕ) → opening_price_lem buys sells ≡ Some o → AllByRecursion (λ x. x.price ≡ o) xs
   -- where there is no opening price, nothing has traded
   pub none : opening_price_lem buys sells ≡ None → xs ≡ []
 

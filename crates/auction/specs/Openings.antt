@@ -1,6 +1,6 @@
 -- The opening of one ticker and of all, and when it can be made.
 use Rattle.std.specs.Prelude.{◌≡◌, ℕ, ◌+◌, ◌≤◌, true, List, ◌++◌, length, take, drop}
-use Rattle.std.specs.List.{flat_map, AllByRecursion as All}
+use Rattle.std.specs.List.{flat_map, AllByRecursion}
 use Rattle.rules.specs.declared.bid.Side.{Side}
 use Rattle.rules.specs.declared.bid.Side.TheVariants.{Buy, Sell}
 use Rattle.register.specs.Books.{Book}
@@ -39,7 +39,7 @@ opened_with o s = let xs = trades_of o.deals in record { buys = o.buys; sells = 
 pub record Openable (currency : ℕ) (s : Sheet) (o : Opened) (b : Book) : Type 0 where
   pub buys_ranked : Ranked (by_price Buy) s.buys
   pub sells_ranked : Ranked (by_price Sell) s.sells
-  pub buys_lots : All (λ x. 1 ≤ x.lots) s.buys
+  pub buys_lots : AllByRecursion (λ x. 1 ≤ x.lots) s.buys
   pub granted : Granted (flat_map (settlement currency) o.deals) b
   pub sums : SumsHeld (opened_with o s)
 
@@ -62,7 +62,7 @@ open_trades w = flat_map (λ t. trades_of (opened_at w t).deals) tickers
 -- all that an opening asks of the world before it
 pub record ReadyToOpen (w : World) : Type 0 where
   pub ranked : (t : ℕ) (side : Side) → Ranked (by_price side) (queue w t side)
-  pub lots : (t : ℕ) (side : Side) → All (λ x. 1 ≤ x.lots) (queue w t side)
+  pub lots : (t : ℕ) (side : Side) → AllByRecursion (λ x. 1 ≤ x.lots) (queue w t side)
   pub granted : Granted (open_moves w) w.book
   pub sums : (t : ℕ) → SumsHeld (open_sheet w t)
 

@@ -1,3 +1,5 @@
+#![tactic(auto)]
+
 // Examples worked out by hand, run on every kind of register.
 #[cfg(test)]
 mod caps;

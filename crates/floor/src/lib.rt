@@ -1,4 +1,6 @@
 // A trading floor: its queues, its ticker books, and what each session lets run.
+#![tactic(auto)]
+
 pub mod books;
 pub mod desk;
 pub mod events;

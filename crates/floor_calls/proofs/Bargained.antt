@@ -1,23 +1,20 @@
 -- A bid that is taken, in the words of those who bid. Assumes nothing.
-use Rattle.std.proofs.Common.{◌≡◌, ℕ, ◌+◌, ◌<◌, ◌≤◌, Bool, true, false, cond, not, ◌&&◌, List, [], ◌++◌, map, length, take, drop, Some, None, Ok, Err, Option, Result, sym, refl, ap, ◌∙◌, subst, arith}
-use mathlib.Core.List.{Memᴰ}
-use Rattle.std.specs.List.{AllByRecursion as All}
+use Rattle.std.proofs.Common.{◌≡◌, ℕ, ◌+◌, ◌≤◌, Bool, true, false, cond, not, ◌&&◌, List, [], ◌++◌, map, length, take, drop, Some, None, Ok, Err, Option, Result, sym, refl, ap, ◌∙◌, subst, arith}
+use Rattle.std.specs.List.{AllByRecursion}
 use Rattle.std.proofs.lemmas.List.{take-append-le, take_all}
 use Rattle.std.proofs.ByRecursion.{All-weaker}
 use Rattle.rules.specs.Rules.{Rule, Lawful}
 use Rattle.model.specs.declared.words.Bid.{Bid}
 use Rattle.model.specs.declared.words.Receipt.{Receipt}
 use Rattle.model.specs.declared.words.Session.{Session}
-use Rattle.model.specs.declared.words.Standing.{Standing}
 use Rattle.model.specs.declared.words.Trade.{Trade}
 use Rattle.model.specs.declared.faults.Cause.{Cause}
 use Rattle.model.specs.declared.faults.Fault.{Fault}
 use Rattle.model.specs.declared.calls.Call.TheVariants.{Place}
 use Rattle.model.specs.declared.calls.Answer.TheVariants.{Placed, Refused}
 use Rattle.model.specs.Words.{is_some}
-use Rattle.model.specs.Market.{other, is_trading, is_post_trading}
-use Rattle.model.specs.Average.{lots_of}
-use Rattle.model.specs.Matching.{Met, trades_of}
+use Rattle.model.specs.Market.{other, is_trading}
+use Rattle.model.specs.Matching.{trades_of}
 use Rattle.model.specs.World.{World, queue, average_of}
 use Rattle.model.specs.Bidding.{limit_of, met, rest, bid_trades, next_number}
 use Rattle.model.specs.Serving.{Along, end, number_in, numbers_of}
@@ -36,9 +33,9 @@ use Rattle.floor_calls.specs.Bargains.{Bargain, Bargained}
 
 module _ (w : World) (b : Bid) where
   -- ---- the trades of a bid
-  trades-fair : All (Fair b.side (limit_of w b) (queue w b.ticker (other b.side))) (bid_trades w b)
+  trades-fair : AllByRecursion (Fair b.side (limit_of w b) (queue w b.ticker (other b.side))) (bid_trades w b)
   trades-fair =
-      encounter-by w b (λ m. All (Fair b.side (limit_of w b) (queue w b.ticker (other b.side))) (trades_of m.deals)) tt
+      encounter-by w b (λ m. AllByRecursion (Fair b.side (limit_of w b) (queue w b.ticker (other b.side))) (trades_of m.deals)) tt
       (matching-is-right (next_number w) b (limit_of w b) (queue w b.ticker (other b.side))).fair
 
   trades-ordered : Along (map (number_in (other b.side)) (bid_trades w b)) (numbers_of (queue w b.ticker (other b.side)))

@@ -1,10 +1,10 @@
 -- A bid that is taken: from the books of its ticker to the world of the floor. Assumes nothing.
-use Rattle.std.proofs.Common.{◌≡◌, ℕ, ◌+◌, ◌-◌, ◌^◌, ◌<◌, ◌≤◌, Bool, true, false, cond, ◌&&◌, ◌||◌, eqb, ltb, leb, ◌⊎◌, List, [], ◌∷◌, ◌++◌, length, get_or, drop, set, Some, None, Option, sym, refl, ap, ◌∙◌, subst, inl, inr, arith, length-set}
+use Rattle.std.proofs.Common.{◌≡◌, ℕ, ◌+◌, ◌-◌, ◌^◌, ◌<◌, Bool, true, false, cond, ◌&&◌, ◌||◌, eqb, ltb, leb, ◌⊎◌, List, [], ◌∷◌, ◌++◌, length, get_or, drop, set, Some, None, Option, sym, refl, ap, ◌∙◌, subst, inl, inr, arith}
 use Rattle.std.proofs.lemmas.Bool.Decides.{nat_tests}
 use Rattle.std.proofs.lemmas.Bool.{eqb-true}
 use Rattle.std.proofs.lemmas.List.{length-map, append_assoc}
 use Rattle.register.specs.Books.{Book, holder_known_lem}
-use Rattle.register.specs.Moves.{Move, Block, Release, refusal, moved, after_move}
+use Rattle.register.specs.Moves.{Move, Block, Release, refusal, after_move}
 use Rattle.register.specs.declared.slips.Slip.{Slip}
 use Rattle.register.proofs.Grants.{after-made, after-refused}
 use Rattle.register.specs.declared.faults.RegisterFault.{RegisterFault}
@@ -28,12 +28,12 @@ use Rattle.model.specs.Matching.{Met, trades_of, to_block}
 use Rattle.model.specs.Movements.{Granted, moved_all, bid_moves, settlements}
 use Rattle.model.specs.Listings.{quote_of, asset_of_lem}
 use Rattle.model.specs.World.{World, Sheet, queue, queue_of, sheet_by}
-use Rattle.model.specs.Bidding.{limit_of, met, rest, owed, bid_trades, question, next_number}
-use Rattle.model.specs.Checks.{Check, by_rule, by_register, must, or_next, why, checks, has_place_lem, funds, first_failing}
+use Rattle.model.specs.Bidding.{limit_of, met, rest, owed, bid_trades, question}
+use Rattle.model.specs.Checks.{Check, by_rule, by_register, must, or_next, why, has_place_lem, funds, first_failing}
 use Rattle.model.specs.Calls.{next, receipt, with_sheet, bid_sheet, counted}
 use Rattle.model.specs.Sound.{Sound}
 use Rattle.model.proofs.Bids.{bids-are-right}
-use Rattle.model.proofs.Sheets.{passed, must-true, rule-none, register-none, sheet-here}
+use Rattle.model.proofs.Sheets.{passed, must-true, register-none, sheet-here}
 use Rattle.model.proofs.Soundness.{next-granted, next-sound, sums-fit}
 use Rattle.queues.specs.declared.books.TickerBook.{TickerBook}
 use Rattle.queues.specs.Sheets.{sheet_of, sheets_of}
@@ -119,23 +119,23 @@ module _ (r : Rule) (w : World) (shown : Session) (b : Bid) (room : ℕ) where
   funds-decide p q s = after-rule p q ∙ go_on _ _ s ∙ sym (last-check (funds w b))
 
   pub record Formed : Type 0 where
-    pub room-enough : leb bid_room room ≡ true
-    pub holder-ticker : (holder_known_lem b.holder && ticker_known b.ticker) ≡ true
+    pub room_enough : leb bid_room room ≡ true
+    pub holder_ticker : (holder_known_lem b.holder && ticker_known b.ticker) ≡ true
     pub numbers : ltb w.given most_numbers ≡ true
 
   pub formed : None ≡ first_failing (form_checks w shown b room) → Formed
   formed p =
       let ps = passed (form_checks w shown b room) (sym p) in
       record {
-        room-enough = must-true _ _ ps.1.0;
-        holder-ticker = must-true _ _ ps.1.1.0;
+        room_enough = must-true _ _ ps.1.0;
+        holder_ticker = must-true _ _ ps.1.1.0;
         numbers = must-true _ _ ps.1.1.1.1.1.1.0;
       }
 
 -- ---- what is blocked
 -- a block that is refused leaves the book as it was
-pub not-blocked : (k : Book) (s : Slip) (e : Cause) → block_fault k s ≡ Some e → blocked_by k s ≡ k
-not-blocked k s e p = by (eqb s.amount 0) p
+pub not_blocked : (k : Book) (s : Slip) (e : Cause) → block_fault k s ≡ Some e → blocked_by k s ≡ k
+not_blocked k s e p = by (eqb s.amount 0) p
   where
     refuses : (x : Option RegisterFault) → refusal k (Block s.holder s.asset s.amount) ≡ x → by_register x ≡ Some e → after_move k (Block s.holder s.asset s.amount) ≡ k
     refuses None q t = absurd (let z : ◌≡◌ {A = ℕ} 0 1 = cc in omega arith)
@@ -224,7 +224,7 @@ module _ (w : World) (b : Bid) (o : Outlook) (out : Outlined w b o) where
       trades = refl;
       left = out.left ∙ ap (λ (z : Met). z.left) out.trades;
       cost = out.cost ∙ ap (λ (z : Met). cost_of (trades_of z.deals)) out.trades;
-      strip = let p = s.places b.ticker (other b.side) in let e = fm.room-enough in grind (arith, nat_tests);
+      strip = let p = s.places b.ticker (other b.side) in let e = fm.room_enough in grind (arith, nat_tests);
       place = placed (either _ _ pl);
       worth = sums.0;
       traded = sums.1;

@@ -12,9 +12,8 @@ use Rattle.model.specs.declared.faults.Cause.{Cause}
 use Rattle.model.specs.declared.words.Receipt.{Receipt}
 use Rattle.model.specs.declared.calls.Call.{Call}
 use Rattle.model.specs.declared.calls.Call.TheVariants as call
-use Rattle.model.specs.declared.calls.Answer.{Answer}
-use Rattle.model.specs.declared.calls.Answer.TheVariants.{Done, Placed, Cancelled, Opened, Refused}
-use Rattle.model.specs.World.{World, made}
+use Rattle.model.specs.declared.calls.Answer.TheVariants.{Done, Placed, Cancelled, Refused}
+use Rattle.model.specs.World.{World}
 use Rattle.model.specs.Checks.{why, by_register, by_rule, or_next}
 use Rattle.model.specs.Calls.{kind_of, ticker_of, fault_of_lem, accepted, next, decided, answer, after, trades, trades_made}
 use Rattle.model.specs.Sound.{Sound}

@@ -1,19 +1,17 @@
 -- The end of a session, and taking a floor apart. Assumes nothing.
-use Rattle.std.proofs.Common.{◌≡◌, ℕ, ◌<◌, Bool, true, false, cond, ◌⊎◌, List, [], ◌∷◌, ◌++◌, map, Some, None, Option, sym, refl, ap, ◌∙◌, subst, inl, inr, arith}
-use Rattle.std.specs.List.{flat_map, AllByRecursion as All}
-use Rattle.std.proofs.lemmas.Bool.{cond-true, cond-false, cases_Bool}
-use Rattle.register.specs.Books.{Book}
+use Rattle.std.proofs.Common.{◌≡◌, ℕ, ◌<◌, Bool, true, false, cond, ◌⊎◌, List, [], ◌∷◌, ◌++◌, map, Some, None, Option, sym, refl, ◌∙◌, subst, inl, inr, arith}
+use Rattle.std.specs.List.{flat_map, AllByRecursion}
+use Rattle.std.proofs.lemmas.Bool.{cases_Bool}
 use Rattle.register.specs.Moves.{Move}
-use Rattle.rules.specs.declared.bid.Side.{Side}
 use Rattle.rules.specs.declared.bid.Side.TheVariants.{Buy, Sell}
-use Rattle.rules.specs.Rules.{Rule, Lawful}
+use Rattle.rules.specs.Rules.{Rule}
 use Rattle.model.specs.declared.words.Session.{Session}
 use Rattle.model.specs.declared.calls.Call.{Call}
 use Rattle.model.specs.declared.calls.Call.TheVariants.{EndTrading, EndPostTrading}
 use Rattle.model.specs.declared.calls.Answer.TheVariants.{Done, Refused}
 use Rattle.model.specs.declared.faults.Cause.{Cause}
 use Rattle.model.specs.declared.faults.FloorRefusal.TheVariants.{WrongSession}
-use Rattle.model.specs.Market.{is_closed, ticker_known, tickers}
+use Rattle.model.specs.Market.{is_closed, tickers}
 use Rattle.model.specs.Movements.{Granted, moved_all, void_moves, freeing}
 use Rattle.model.specs.World.{World, queue}
 use Rattle.model.specs.Checks.{Check, must, why, or_next}
@@ -26,7 +24,7 @@ use Rattle.floor_calls.specs.declared.events.Event.TheVariants as event
 use Rattle.floor_calls.specs.Events.{runs_in, leads_to}
 use Rattle.floor_calls.specs.Ends.{ended_by, NothingStands}
 
-none-joined : {X Y : Type 0} (f : X → List Y) (xs : List X) → All (λ x. f x ≡ []) xs → flat_map f xs ≡ []
+none-joined : {X Y : Type 0} (f : X → List Y) (xs : List X) → AllByRecursion (λ x. f x ≡ []) xs → flat_map f xs ≡ []
 none-joined f [] a = refl
 none-joined f (x ∷ xs) a = (λ i. a.0 i ++ flat_map f xs) ∙ none-joined f xs a.1
 

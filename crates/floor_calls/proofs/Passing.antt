@@ -1,9 +1,8 @@
 -- Checks that are passed one after the other. Assumes nothing.
-use Rattle.std.proofs.Common.{◌≡◌, ℕ, Bool, true, false, cond, List, [], ◌∷◌, ◌++◌, Some, None, Ok, Err, Option, sym, refl, ap, ◌∙◌, arith}
+use Rattle.std.proofs.Common.{◌≡◌, ℕ, Bool, true, false, cond, List, [], ◌∷◌, ◌++◌, Some, None, Ok, Err, refl, ap, ◌∙◌, arith}
 use Rattle.model.specs.declared.words.Session.{Session}
 use Rattle.model.specs.declared.faults.FloorRefusal.{FloorRefusal}
 use Rattle.model.specs.declared.faults.FloorRefusal.TheVariants.{WrongSession}
-use Rattle.model.specs.declared.faults.Cause.{Cause}
 use Rattle.model.specs.declared.faults.Cause.TheVariants.{Floor as ByFloor}
 use Rattle.model.specs.Checks.{Check, must, or_next, first_failing}
 use Rattle.floor_calls.specs.declared.events.Event.{Event}

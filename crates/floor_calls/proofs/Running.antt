@@ -1,5 +1,5 @@
 -- Calls of a list, one after the other. Assumes nothing.
-use Rattle.std.proofs.Common.{◌≡◌, ℕ, ◌+◌, ◌-◌, ◌≤◌, min, Bool, true, false, List, [], ◌∷◌, ◌++◌, map, length, take, drop, Some, None, Option, sym, refl, ap, ◌∙◌, subst, arith}
+use Rattle.std.proofs.Common.{◌≡◌, ℕ, ◌+◌, ◌-◌, ◌≤◌, min, List, [], ◌++◌, length, take, drop, Some, None, Option, sym, refl, ap, ◌∙◌, subst, arith}
 use Rattle.register.specs.Books.{Book}
 use Rattle.rules.specs.Rules.{Rule, Lawful}
 use Rattle.model.specs.declared.words.Bid.{Bid}
@@ -12,9 +12,8 @@ use Rattle.model.specs.declared.calls.Answer.TheVariants.{Refused}
 use Rattle.model.specs.declared.faults.Cause.{Cause}
 use Rattle.model.specs.declared.faults.Cause.TheVariants.{Floor as ByFloor}
 use Rattle.model.specs.declared.faults.FloorRefusal.TheVariants.{WrongSession}
-use Rattle.model.specs.World.{World}
 use Rattle.model.specs.Checks.{why}
-use Rattle.model.specs.Calls.{answer, after, trades, decided, accepted, trades_made, next, fault_of_lem}
+use Rattle.model.specs.Calls.{answer, after, trades, decided, trades_made, fault_of_lem}
 use Rattle.floor_calls.specs.declared.floors.Floor.{Floor}
 use Rattle.floor_calls.specs.Floors.{seen, SoundFloor}
 use Rattle.model.specs.SoundLaws.{room_of_lem}

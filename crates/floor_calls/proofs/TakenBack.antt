@@ -1,37 +1,33 @@
 -- The bid that a cancellation names. Assumes nothing but that no number stands twice.
-use Rattle.std.proofs.Common.{◌≡◌, ℕ, ◌+◌, ◌-◌, ◌≤◌, Bool, true, false, cond, not, ◌&&◌, ◌||◌, eqb, ◌⊎◌, List, [], ◌∷◌, ◌++◌, map, length, get_or, set, Some, None, Option, sym, refl, ap, ◌∙◌, subst, inl, inr, arith}
+use Rattle.std.proofs.Common.{◌≡◌, ℕ, ◌+◌, ◌≤◌, Bool, true, false, cond, not, ◌&&◌, ◌||◌, eqb, ◌⊎◌, List, [], ◌∷◌, ◌++◌, map, Some, None, Option, sym, refl, ap, ◌∙◌, subst, inl, inr, arith}
 use mathlib.Core.Path.{fun_ext}
 use Rattle.std.proofs.lemmas.Bool.Decides.{nat_tests}
-use Rattle.std.proofs.lemmas.Bool.{cond-true, cond-false, cases_Bool, eqb-true, and_parts}
-use Rattle.register.specs.Books.{Book, holder_known_lem}
-use Rattle.register.specs.Moves.{Move, Release, refusal, moved}
+use Rattle.std.proofs.lemmas.Bool.{cond-true, cond-false, cases_Bool, eqb-true}
+use Rattle.register.specs.Books.{holder_known_lem}
+use Rattle.register.specs.Moves.{Release}
 use Rattle.rules.specs.declared.bid.Side.{Side}
 use Rattle.rules.specs.declared.bid.Side.TheVariants.{Buy, Sell}
 use Rattle.rules.specs.Bids.{obligation_of}
-use Rattle.rules.specs.Rules.{Rule, Lawful}
+use Rattle.rules.specs.Rules.{Rule}
 use Rattle.register.specs.declared.slips.Slip.{Slip}
 use Rattle.model.specs.Listings.{asset_of_lem}
 use Rattle.model.specs.declared.words.Session.{Session}
 use Rattle.model.specs.declared.words.Standing.{Standing}
 use Rattle.model.specs.declared.words.Listing.{Listing}
 use Rattle.model.specs.declared.calls.Call.TheVariants.{Cancel}
-use Rattle.model.specs.declared.faults.Cause.{Cause}
 use Rattle.model.specs.declared.faults.Cause.TheVariants.{Floor as ByFloor}
 use Rattle.model.specs.declared.faults.FloorRefusal.TheVariants.{WrongSession, NoHolderOrTicker, NoSuchBid}
 use Rattle.model.specs.Words.{kept, only, any_of, sum_of, or_else}
-use Rattle.model.specs.Market.{serves, ticker_known, tickers}
+use Rattle.model.specs.Market.{serves, ticker_known}
 use Rattle.model.specs.Queues.{named, without}
-use Rattle.model.specs.Movements.{Granted, moved_all, freeing, cancel_moves}
-use Rattle.model.specs.World.{World, Sheet, queue}
-use Rattle.model.specs.Checks.{Check, why, is_standing, must, or_next}
-use Rattle.model.specs.Calls.{next, cancel_sheet, cancelled_lots, with_sheet}
+use Rattle.model.specs.Movements.{freeing, cancel_moves}
+use Rattle.model.specs.World.{World, Sheet}
+use Rattle.model.specs.Checks.{why, is_standing}
+use Rattle.model.specs.Calls.{cancel_sheet, cancelled_lots, with_sheet}
 use Rattle.model.specs.Sound.{Sound, times_in, times_on}
 use Rattle.model.proofs.Sums.{sum-part}
-use Rattle.model.proofs.Soundness.{next-granted}
-use Rattle.queues.specs.declared.books.TickerBook.{TickerBook}
 use Rattle.queues.specs.Entries.{entry_named, less_named}
-use Rattle.queues.specs.Sheets.{sheet_of, sheets_of, or_sell, unless_buy, sheet_named, sheet_less}
-use Rattle.queues.proofs.Filed.{filed, refiled}
+use Rattle.queues.specs.Sheets.{or_sell, unless_buy, sheet_named, sheet_less}
 use Rattle.floor_calls.proofs.Passing.{pass, fail}
 
 -- ---- along a queue

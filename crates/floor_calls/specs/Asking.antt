@@ -1,14 +1,13 @@
 -- What a bid finds at the desk, and how the floor's own checks answer.
-use Rattle.std.specs.Prelude.{◌≡◌, ℕ, suc, ◌*◌, ◌≤◌, Bool, true, cond, not, ◌&&◌, ◌||◌, List, [], ◌∷◌, length, Some, None, Ok, Err, Option, Result, nat_le, nat_lt}
+use Rattle.std.specs.Prelude.{◌≡◌, ℕ, ◌*◌, ◌≤◌, Bool, true, cond, ◌&&◌, List, [], ◌∷◌, length, Some, None, Ok, Err, Result, nat_le, nat_lt}
 use Rattle.register.specs.Books.{holder_known_lem}
 use Rattle.model.specs.declared.faults.FloorRefusal.{FloorRefusal}
-use Rattle.model.specs.declared.faults.FloorRefusal.TheVariants.{WrongSession, ShortStrip, NoHolderOrTicker, BeyondLimits, FormNotTaken, NoAverage, NumbersSpent, QueueFull}
-use Rattle.model.specs.declared.faults.Cause.{Cause}
+use Rattle.model.specs.declared.faults.FloorRefusal.TheVariants.{WrongSession, ShortStrip, NoHolderOrTicker, BeyondLimits, FormNotTaken, NoAverage, NumbersSpent}
 use Rattle.model.specs.declared.faults.Cause.TheVariants.{Floor as ByFloor}
 use Rattle.model.specs.declared.words.Bid.{Bid}
 use Rattle.model.specs.declared.words.Session.{Session}
 use Rattle.model.specs.Market.{serves, bid_room, most_numbers, ticker_known, other}
-use Rattle.model.specs.Checks.{Check, must, within_limits, form_taken, has_average_lem, has_place_lem}
+use Rattle.model.specs.Checks.{Check, must, within_limits, form_taken, has_average_lem}
 use Rattle.model.specs.Listings.{quote_of}
 use Rattle.model.specs.World.{World, queue}
 use Rattle.model.specs.Bidding.{limit_of, next_number, met}

@@ -1,6 +1,6 @@
 -- What is blocked for a bid, and what its admission leaves.
-use Rattle.std.specs.Prelude.{◌≡◌, ℕ, ◌-◌, cond, List, ◌++◌, length, drop, None, Option, ◌==◌}
-use Rattle.register.specs.Books.{Book, empty_book}
+use Rattle.std.specs.Prelude.{◌≡◌, ◌-◌, cond, List, ◌++◌, length, drop, None, ◌==◌}
+use Rattle.register.specs.Books.{Book}
 use Rattle.register.specs.Moves.{Block, refusal, after_move}
 use Rattle.register.specs.declared.slips.Slip.{Slip}
 use Rattle.model.specs.declared.words.Receipt.{Receipt}
@@ -8,7 +8,7 @@ use Rattle.model.specs.declared.words.Trade.{Trade}
 use Rattle.model.specs.Market.{other}
 use Rattle.model.specs.Matching.{Met, trades_of}
 use Rattle.model.specs.Movements.{moved_all}
-use Rattle.model.specs.World.{World, queue_of}
+use Rattle.model.specs.World.{queue_of}
 use Rattle.model.specs.Checks.{Check, by_register}
 use Rattle.model.specs.Calls.{with_sheet}
 use Rattle.queues.specs.Sheets.{sheets_of}
@@ -16,7 +16,6 @@ use Rattle.matching.specs.declared.newcomers.Newcomer.{Newcomer}
 use Rattle.matching.specs.declared.entering.Outlook.{Outlook}
 use Rattle.matching.specs.Enterings.{foreseen, rest_of, entering_moves, entered_sheet}
 use Rattle.floor_calls.specs.declared.floors.Floor.{Floor}
-use Rattle.floor_calls.specs.Desks.{world_of}
 use Rattle.floor_calls.specs.Floors.{seen}
 
 -- the block that a slip is given for; none for 0

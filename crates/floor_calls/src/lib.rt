@@ -1,4 +1,6 @@
 // A trading floor: what it keeps, what each session lets run, and its calls.
+#![tactic(auto)]
+
 pub mod desk;
 pub mod events;
 mod faults;

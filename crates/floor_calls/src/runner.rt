@@ -179,7 +179,7 @@ fn room_of(call: &Call) -> usize
 }
 
 // The trades that an answer tells of.
-fn count_of(answer: &Answer) -> usize
+pub fn count_of(answer: &Answer) -> usize
     ensures { result ≡ count_of answer.now }
 {
     match answer {

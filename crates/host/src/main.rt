@@ -1,7 +1,10 @@
 // The program: reads calls from standard input, one a line, and answers each.
+#![tactic(auto)]
+
 ghost use Rattle.std.specs.Prelude.{◌≡◌};
 ghost use Rattle.script.specs.Replies.{after_line};
 
+use anyhow::anyhow;
 use layers::caps::CapLayer;
 use layers::splits::Split;
 use register::registers::Register;
@@ -107,12 +110,12 @@ fn read_options(rt: &HostRuntime) -> anyhow::Result<Options> {
     for word in env::args(rt)?.skip(1) {
         options = match options.with_word(word.as_str().as_bytes()) {
             Ok(options) => options,
-            Err(fault) => return Err(option_text(fault).into()),
+            Err(fault) => return Err(anyhow!("{}", option_text(fault))),
         };
     }
     match options.complete() {
         Ok(options) => Ok(options),
-        Err(fault) => Err(option_text(fault).into()),
+        Err(fault) => Err(anyhow!("{}", option_text(fault))),
     }
 }
 

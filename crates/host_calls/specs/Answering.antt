@@ -6,7 +6,6 @@ use Rattle.register.specs.declared.faults.Account.{Account}
 use Rattle.model.specs.declared.calls.Call.{Call}
 use Rattle.model.specs.declared.faults.Fault.{Fault}
 use Rattle.model.specs.declared.words.Standing.{Standing}
-use Rattle.model.specs.declared.words.Trade.{Trade}
 use Rattle.model.specs.Calls.{answer, after, trades}
 use Rattle.model.specs.Looks.{look_account, look_queue, look_average}
 use Rattle.model.specs.World.{World}

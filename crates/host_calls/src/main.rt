@@ -1,6 +1,9 @@
 // The program: reads calls from standard input, one a line, and answers each.
+#![tactic(auto)]
+
 ghost use Rattle.floor_calls.specs.Floors.{SoundFloor};
 
+use anyhow::anyhow;
 use floor_calls::floors::Floor;
 use floor_calls::runner::run;
 use layers::caps::CapLayer;
@@ -36,7 +39,7 @@ bid SESSION HOLDER TICKER buy|sell PRICE|- LOTS partial|entire keep|withdraw [RO
 cancel SESSION HOLDER TICKER NUMBER     takes out a standing bid
 open [ROOM]                             opens trading
 end-trading                             ends trading
-end-post-trading                        ends post_trading, and the day
+end-post-trading                        ends post-trading, and the day
 read HOLDER ASSET                       shows one account
 accounts                                shows each account that has something free or blocked
 queue TICKER buy|sell                   shows the standing bids of one side
@@ -167,12 +170,12 @@ fn read_options(rt: &HostRuntime) -> anyhow::Result<Options> {
     for word in env::args(rt)?.skip(1) {
         options = match options.with_word(word.as_str().as_bytes()) {
             Ok(options) => options,
-            Err(fault) => return Err(option_text(fault).into()),
+            Err(fault) => return Err(anyhow!("{}", option_text(fault))),
         };
     }
     match options.complete() {
         Ok(options) => Ok(options),
-        Err(fault) => Err(option_text(fault).into()),
+        Err(fault) => Err(anyhow!("{}", option_text(fault))),
     }
 }
 

@@ -26,12 +26,12 @@ module _ (upper : List ℕ) (ut : ℕ) (lower : List ℕ) (lt : ℕ) where
       free = e.free;
       blocked = e.blocked;
       limit = λ h. smallest _ _ _ _ (e.limit h);
-      tag = λ h n. let t = e.tag h n in record { over-upper = λ o. grind (arith, nat_tests); over-lower = λ w o. grind (arith, nat_tests); over-neither = λ w v. grind (arith, nat_tests) };
+      tag = λ h n. let t = e.tag h n in record { over_upper = λ o. grind (arith, nat_tests); over_lower = λ w o. grind (arith, nat_tests); over_neither = λ w v. grind (arith, nat_tests) };
     };
     block = record {
       short = λ h n ok o. let f = e.free h in grind (arith, nat_tests);
-      by-upper = λ h n ok f o. let e1 = e.free h in let e2 = e.blocked h in grind (arith, nat_tests);
-      by-lower = λ h n ok f w o. let e1 = e.free h in let e2 = e.blocked h in grind (arith, nat_tests);
+      by_upper = λ h n ok f o. let e1 = e.free h in let e2 = e.blocked h in grind (arith, nat_tests);
+      by_lower = λ h n ok f w o. let e1 = e.free h in let e2 = e.blocked h in grind (arith, nat_tests);
       below = λ h n w v. let e1 = e.free h in let e2 = e.blocked h in let e3 = e.limit h in let e4 = e.tag h (b.blocked h a + n) in grind (arith, nat_tests);
     };
     others = record {

@@ -19,16 +19,16 @@ pub record Lawful (h a n : ℕ) : Type 0 where
   pub least : 1 ≤ n
   pub most : n ≤ most_amount
 
-module _ (upper : List ℕ) (upperTag : ℕ) (lower : List ℕ) (lowerTag : ℕ) where
+module _ (upper : List ℕ) (upper_tag : ℕ) (lower : List ℕ) (lower_tag : ℕ) where
   -- who refuses a blocked sum n of an asset: of the two layers the uppermost whose cap it exceeds, else the
   -- register below, which has the tag own for it
   pub record Named (tag own a n : ℕ) : Type 0 where
-    pub over-upper : cap_for upper a < n → tag ≡ upperTag
-    pub over-lower : n ≤ cap_for upper a → cap_for lower a < n → tag ≡ lowerTag
-    pub over-neither : n ≤ cap_for upper a → n ≤ cap_for lower a → tag ≡ own
+    pub over_upper : cap_for upper a < n → tag ≡ upper_tag
+    pub over_lower : n ≤ cap_for upper a → cap_for lower a < n → tag ≡ lower_tag
+    pub over_neither : n ≤ cap_for upper a → n ≤ cap_for lower a → tag ≡ own
 
   -- an account of the pile w is the account of the register b, under the smallest of the three caps
-  pub record Account-shown (w b : Book) (a : ℕ) : Type 0 where
+  pub record AccountShown (w b : Book) (a : ℕ) : Type 0 where
     pub free : (h : ℕ) → w.free h a ≡ b.free h a
     pub blocked : (h : ℕ) → w.blocked h a ≡ b.blocked h a
     pub limit : (h : ℕ) → Smallest (w.limit h a) (cap_for upper a) (cap_for lower a) (b.limit h a)
@@ -36,15 +36,15 @@ module _ (upper : List ℕ) (upperTag : ℕ) (lower : List ℕ) (lowerTag : ℕ)
 
   -- a block at the pile: no cap speaks before free does; then the uppermost cap that is exceeded names its
   -- layer; and within both layers' caps it is as at the register b
-  pub record Block-refused (w b : Book) (a : ℕ) : Type 0 where
+  pub record BlockRefused (w b : Book) (a : ℕ) : Type 0 where
     pub short : (h n : ℕ) → Lawful h a n → b.free h a < n → refusal w (Block h a n) ≡ Some (fault TooLittleFree h a 0)
-    pub by-upper : (h n : ℕ) → Lawful h a n → n ≤ b.free h a → cap_for upper a < b.blocked h a + n → refusal w (Block h a n) ≡ Some (fault OverCap h a upperTag)
-    pub by-lower : (h n : ℕ) → Lawful h a n → n ≤ b.free h a → b.blocked h a + n ≤ cap_for upper a → cap_for lower a < b.blocked h a + n →
-        refusal w (Block h a n) ≡ Some (fault OverCap h a lowerTag)
+    pub by_upper : (h n : ℕ) → Lawful h a n → n ≤ b.free h a → cap_for upper a < b.blocked h a + n → refusal w (Block h a n) ≡ Some (fault OverCap h a upper_tag)
+    pub by_lower : (h n : ℕ) → Lawful h a n → n ≤ b.free h a → b.blocked h a + n ≤ cap_for upper a → cap_for lower a < b.blocked h a + n →
+        refusal w (Block h a n) ≡ Some (fault OverCap h a lower_tag)
     pub below : (h n : ℕ) → b.blocked h a + n ≤ cap_for upper a → b.blocked h a + n ≤ cap_for lower a → refusal w (Block h a n) ≡ refusal b (Block h a n)
 
   -- every other movement at the pile is refused as at the register b, and for the same reason
-  pub record Others-refused (w b : Book) (a : ℕ) : Type 0 where
+  pub record OthersRefused (w b : Book) (a : ℕ) : Type 0 where
     pub deposit : (h n : ℕ) → refusal w (Deposit h a n) ≡ refusal b (Deposit h a n)
     pub withdraw : (h n : ℕ) → refusal w (Withdraw h a n) ≡ refusal b (Withdraw h a n)
     pub release : (h n : ℕ) → refusal w (Release h a n) ≡ refusal b (Release h a n)
@@ -52,9 +52,9 @@ module _ (upper : List ℕ) (upperTag : ℕ) (lower : List ℕ) (lowerTag : ℕ)
 
   -- of the asset a the pile w has what the register b has
   pub record Shows (w b : Book) (a : ℕ) : Type 0 where
-    pub account : Account-shown w b a
-    pub block : Block-refused w b a
-    pub others : Others-refused w b a
+    pub account : AccountShown w b a
+    pub block : BlockRefused w b a
+    pub others : OthersRefused w b a
 
   -- w is the pile of the register p for assets 0 to 3 and the register q for all others
   pub record Piled (p q w : Book) : Type 0 where

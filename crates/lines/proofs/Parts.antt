@@ -1,6 +1,6 @@
 -- Words that are written with other words in them: prices, quotes, and the words of a choice.
 use Rattle.std.proofs.Common.{◌≡◌, ℕ, ◌+◌, ◌<◌, ◌≤◌, Bool, true, false, cond, not, eqb, ltb, List, [], ◌∷◌, ◌++◌, map, length, take, drop, Some, None, Ok, Err, codes, decimal, Option, Result, sym, refl, ap, ◌∙◌, append_assoc, arith, length-append}
-use Rattle.std.specs.List.{prefix_len, AllByRecursion as All}
+use Rattle.std.specs.List.{prefix_len, AllByRecursion}
 use Rattle.std.proofs.lemmas.List.{take_at, drop_at}
 use Rattle.std.proofs.lemmas.Bool.{lt-ltb}
 use Rattle.std.proofs.lemmas.Bool.Decides.{nat_tests}
@@ -136,7 +136,7 @@ module _ (q : Quote) (f : QuoteFits q) where
         hashes = passes_append no_hash (decimal q.currency) (58 ∷ decimal q.settlement) c.hashes s.hashes;
       }
 
-pub quotes-back : (qs : List Quote) → All QuoteFits qs → take_quotes_lem (length qs) (map quote_word qs) ≡ Ok (qs, [])
+pub quotes-back : (qs : List Quote) → AllByRecursion QuoteFits qs → take_quotes_lem (length qs) (map quote_word qs) ≡ Ok (qs, [])
 unfolding take_quotes_lem
 quotes-back [] f = refl
 quotes-back (q ∷ qs) f =
@@ -144,6 +144,6 @@ quotes-back (q ∷ qs) f =
     (take_back quote_of (quote_word q) (map quote_word qs) q (quote-back q f.0))
     ∙ ap (λ r. and_then r (λ rest. Ok (q ∷ rest.0, rest.1))) (quotes-back qs f.1)
 
-pub plain-quotes : (qs : List Quote) → All QuoteFits qs → All Plain (map quote_word qs)
+pub plain-quotes : (qs : List Quote) → AllByRecursion QuoteFits qs → AllByRecursion Plain (map quote_word qs)
 plain-quotes [] f = tt
 plain-quotes (q ∷ qs) f = (plain-quote q f.0, plain-quotes qs f.1)

@@ -1,9 +1,9 @@
 -- Words without a blank or a comment sign, and a line that is made of them.
 use Rattle.std.proofs.Common.{◌≡◌, ℕ, ◌+◌, ◌<◌, Bool, true, false, cond, not, ◌&&◌, eqb, ltb, List, [], ◌∷◌, ◌++◌, length, take, drop, refl, ap, ◌∙◌, arith}
-use Rattle.std.specs.List.{prefix_len, AllByRecursion as All}
+use Rattle.std.specs.List.{prefix_len, AllByRecursion}
 use Rattle.std.proofs.lemmas.List.{take_all, take_at, drop_at}
 use Rattle.std.proofs.lemmas.Bool.Decides.{nat_tests}
-use Rattle.script_calls.specs.Lines.{blank, uncommented, words_of}
+use Rattle.script_calls.specs.Lines.{uncommented, words_of}
 use Rattle.script_calls.proofs.Cut.{word, words-first}
 use Rattle.lines.specs.Writing.{spaced}
 
@@ -47,17 +47,17 @@ words-plain w cs h =
     ∙ ap (λ i. take i (w ++ (32 ∷ cs)) ∷ words_of (drop i (w ++ (32 ∷ cs)))) n
     ∙ (λ i. take_at w (32 ∷ cs) (length w) refl i ∷ words_of (drop_at w (32 ∷ cs) (length w) refl i))
 
-words-spaced : (ws : List (List ℕ)) → All Plain ws → words_of (spaced 32 ws) ≡ ws
+words-spaced : (ws : List (List ℕ)) → AllByRecursion Plain ws → words_of (spaced 32 ws) ≡ ws
 unfolding words_of
 words-spaced [] h = refl
 words-spaced (w ∷ ws) h = words-plain w (spaced 32 ws) h.0 ∙ ap (λ vs. w ∷ vs) (words-spaced ws h.1)
 
-no-hash : (ws : List (List ℕ)) → All Plain ws → passes no_hash (spaced 32 ws) ≡ true
+no-hash : (ws : List (List ℕ)) → AllByRecursion Plain ws → passes no_hash (spaced 32 ws) ≡ true
 no-hash [] h = refl
 no-hash (w ∷ ws) h = passes_append no_hash w (32 ∷ spaced 32 ws) h.0.hashes (no-hash ws h.1)
 
 -- the words of a line of plain words are those words
-pub words_back : (ws : List (List ℕ)) → All Plain ws → words_of (uncommented (spaced 32 ws)) ≡ ws
+pub words_back : (ws : List (List ℕ)) → AllByRecursion Plain ws → words_of (uncommented (spaced 32 ws)) ≡ ws
 words_back ws h =
     let n : prefix_len no_hash (spaced 32 ws) ≡ length (spaced 32 ws) = leading-whole no_hash (spaced 32 ws) (no-hash ws h) in
     ap words_of (take_all (prefix_len no_hash (spaced 32 ws)) (spaced 32 ws) (omega (arith, n))) ∙ words-spaced ws h

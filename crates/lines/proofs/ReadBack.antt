@@ -1,6 +1,6 @@
 -- Every command is read from the line that is written for it.
 use Rattle.std.proofs.Common.{◌≡◌, ℕ, ◌≤◌, Bool, List, [], ◌∷◌, map, Some, Ok, codes, decimal, Option, Result, sym, refl, ap, ◌∙◌, arith}
-use Rattle.std.specs.List.{AllByRecursion as All}
+use Rattle.std.specs.List.{AllByRecursion}
 use Rattle.rules.specs.declared.bid.Side.{Side}
 use Rattle.model.specs.declared.calls.Call.{Call}
 use Rattle.model.specs.declared.calls.Call.TheVariants.{Start, Deposit, Withdraw, Place, Cancel, Open, EndTrading, EndPostTrading}
@@ -116,7 +116,7 @@ command-back command.Accounts f = refl
 command-back command.Session f = refl
 
 -- ---- their words are plain
-plain-call : (c : Call) → CallFits c → All Plain (call_words c)
+plain-call : (c : Call) → CallFits c → AllByRecursion Plain (call_words c)
 plain-call (Start l) f = (keyword (codes "start") refl, plain-quotes l.quotes f.1)
 plain-call (Deposit h a n) f = (keyword (codes "deposit") refl, (byte-plain h f.0, (byte-plain a f.1, (plain-decimal n f.2, tt))))
 plain-call (Withdraw h a n) f = (keyword (codes "withdraw") refl, (byte-plain h f.0, (byte-plain a f.1, (plain-decimal n f.2, tt))))
@@ -145,7 +145,7 @@ plain-call (Open room) f = (keyword (codes "open") refl, (plain-decimal room f, 
 plain-call EndTrading f = (keyword (codes "end-trading") refl, tt)
 plain-call EndPostTrading f = (keyword (codes "end-post-trading") refl, tt)
 
-plain-command : (c : Command) → Fits c → All Plain (command_words c)
+plain-command : (c : Command) → Fits c → AllByRecursion Plain (command_words c)
 plain-command (command.Call c) f = plain-call c f
 plain-command (command.Read h a) f = (keyword (codes "read") refl, (byte-plain h f.0, (byte-plain a f.1, tt)))
 plain-command (command.Queue t s) f = (keyword (codes "queue") refl, (byte-plain t f, (plain-side s, tt)))

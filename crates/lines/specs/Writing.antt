@@ -1,6 +1,6 @@
 -- How each command is written in a line, and that the line is read as that command.
 use Rattle.std.specs.Prelude.{◌≡◌, ℕ, ◌≤◌, Bool, true, false, List, [], ◌∷◌, ◌++◌, map, length, Some, None, Ok, codes, decimal, Option}
-use Rattle.std.specs.List.{AllByRecursion as All}
+use Rattle.std.specs.List.{AllByRecursion}
 use Rattle.rules.specs.declared.bid.Side.{Side}
 use Rattle.rules.specs.declared.bid.Side.TheVariants.{Buy, Sell}
 use Rattle.model.specs.declared.calls.Call.{Call}
@@ -85,7 +85,7 @@ abbrev pub QuoteFits : Quote → Type 0
 QuoteFits q = (q.currency ≤ most8) × (q.settlement ≤ most32)
 
 abbrev pub CallFits : Call → Type 0
-CallFits (Start listing) = (length listing.quotes ≡ 8) × All QuoteFits listing.quotes
+CallFits (Start listing) = (length listing.quotes ≡ 8) × AllByRecursion QuoteFits listing.quotes
 CallFits (Deposit h a n) = (h ≤ most8) × (a ≤ most8) × (n ≤ most64)
 CallFits (Withdraw h a n) = (h ≤ most8) × (a ≤ most8) × (n ≤ most64)
 CallFits (Place shown b room) =

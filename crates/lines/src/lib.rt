@@ -1,4 +1,6 @@
 // Lines and what they name, answers and their lines: a law over all of them, and examples worked out by hand.
+#![tactic(auto)]
+
 ghost use Rattle.lines.specs.Writing.{LinesAreReadBack};
 
 #[cfg(test)]

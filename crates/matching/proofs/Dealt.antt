@@ -1,5 +1,5 @@
 -- One trade of a newcomer: the slips that it exchanges are those of its deal. Assumes nothing.
-use Rattle.std.proofs.Common.{◌≡◌, ℕ, ◌-◌, ◌*◌, ◌≤◌, min, true, ◌&&◌, ltb, leb, List, Some, None, Option, sym, refl, ap, ◌∙◌, subst, mul-le-mul_right, arith}
+use Rattle.std.proofs.Common.{◌≡◌, ℕ, ◌-◌, ◌*◌, ◌≤◌, min, true, List, Some, None, Option, sym, refl, ap, ◌∙◌, subst, mul-le-mul_right, arith}
 use Rattle.std.proofs.lemmas.Bool.Decides.{nat_tests}
 use Rattle.register.specs.Books.{Book}
 use Rattle.register.specs.Moves.{Move}

@@ -1,5 +1,5 @@
 -- A newcomer, the queue it faces, and the books of its ticker. Assumes nothing.
-use Rattle.std.proofs.Common.{◌≡◌, ℕ, ◌+◌, ◌-◌, ◌<◌, ◌≤◌, Bool, true, false, cond, eqb, ◌⊎◌, List, [], ◌∷◌, ◌++◌, length, drop, sym, refl, ap, ◌∙◌, subst, inl, inr, arith}
+use Rattle.std.proofs.Common.{◌≡◌, ℕ, ◌+◌, ◌-◌, ◌<◌, ◌≤◌, Bool, true, false, eqb, ◌⊎◌, List, length, sym, refl, ap, ◌∙◌, subst, inl, inr, arith}
 use Rattle.register.specs.Books.{Book}
 use Rattle.register.specs.Moves.{Move, Release}
 use Rattle.register.specs.declared.slips.Slip.{Slip}
@@ -12,7 +12,7 @@ use Rattle.model.specs.declared.words.Trade.{Trade}
 use Rattle.model.specs.Words.{only}
 use Rattle.model.specs.Market.{other}
 use Rattle.model.specs.Average.{cost_of, lots_of}
-use Rattle.model.specs.Matching.{Met, trades_of, untouched}
+use Rattle.model.specs.Matching.{Met, trades_of}
 use Rattle.model.specs.Movements.{Granted, moved_all}
 use Rattle.model.specs.World.{Sheet, queue_of, sheet_by}
 use Rattle.model.specs.Calls.{counted}
@@ -20,8 +20,8 @@ use Rattle.model.proofs.Matched.{matching-is-right}
 use Rattle.matching.specs.declared.newcomers.Newcomer.{Newcomer}
 use Rattle.matching.specs.declared.entering.Outlook.{Outlook}
 use Rattle.matching.specs.Dealing.{mine_of, met_by}
-use Rattle.matching.specs.Meetings.{Ready, Swept, settling, slip_for}
-use Rattle.matching.specs.Enterings.{foreseen, rest_of, ranked_in, Faced, entering_moves, entered_sheet, Enters, Entered}
+use Rattle.matching.specs.Meetings.{Ready, Swept, settling}
+use Rattle.matching.specs.Enterings.{foreseen, rest_of, ranked_in, Faced, entered_sheet, Enters, Entered}
 use Rattle.matching.proofs.Granting.{granted-front, granted-behind, moved-join}
 
 -- ---- a sheet by the queues of a side and of the other

@@ -1,8 +1,8 @@
 -- A newcomer and a queue, one standing bid at a time. Assumes nothing.
-use Rattle.std.proofs.Common.{◌≡◌, ℕ, ◌+◌, ◌-◌, ◌*◌, ◌<◌, ◌≤◌, min, Bool, true, false, cond, ◌&&◌, ltb, leb, ◌⊎◌, List, [], ◌∷◌, ◌++◌, length, get_or, take, drop, set, Some, None, Option, sym, refl, ap, ◌∙◌, subst, inl, inr, mul-le-mul_right, arith, length-set}
+use Rattle.std.proofs.Common.{◌≡◌, ℕ, ◌+◌, ◌-◌, ◌*◌, ◌<◌, ◌≤◌, min, Bool, true, false, cond, ltb, leb, ◌⊎◌, List, [], ◌∷◌, ◌++◌, length, get_or, take, drop, set, Some, None, Option, sym, refl, ap, ◌∙◌, subst, inl, inr, mul-le-mul_right, arith}
 use Rattle.std.proofs.lemmas.Bool.Decides.{nat_tests}
 use Rattle.std.proofs.lemmas.Bool.{cond-true, cond-false, cases_Bool, and_parts}
-use Rattle.std.proofs.lemmas.List.{append_assoc, append-nil, at_drop_more, at_drop_all, take_more_set, drop-set-lt, drop-drop, length-take-le, take-append-drop, length-map}
+use Rattle.std.proofs.lemmas.List.{append_assoc, append-nil, at_drop_more, at_drop_all, drop-set-lt, drop-drop, length-take-le, take-append-drop, length-map}
 use Rattle.register.specs.Books.{Book}
 use Rattle.register.specs.declared.slips.Slip.{Slip}
 use Rattle.rules.specs.declared.bid.Side.{Side}
@@ -11,10 +11,9 @@ use Rattle.rules.specs.Bids.{obligation_of}
 use Rattle.model.specs.declared.words.Bid.{Bid}
 use Rattle.model.specs.declared.words.Standing.{Standing}
 use Rattle.model.specs.declared.words.Trade.{Trade}
-use Rattle.model.specs.Words.{sum_of}
 use Rattle.model.specs.Queues.{with_lots}
 use Rattle.model.specs.Average.{cost_of}
-use Rattle.model.specs.Matching.{Deal, Met, trades_of, crosses, taking, meet, untouched}
+use Rattle.model.specs.Matching.{Deal, Met, trades_of, taking, meet, untouched}
 use Rattle.model.specs.Movements.{Granted, moved_all, settlement}
 use Rattle.model.specs.BidLaws.{used}
 use Rattle.model.proofs.Meeting.{meet-graph, meets-few}

@@ -1,14 +1,10 @@
 -- Standing bids that are void: a ticker's, and those of all tickers one after the other. Assumes nothing.
-use Rattle.std.proofs.Common.{◌≡◌, ℕ, zero, suc, ◌+◌, ◌-◌, ◌<◌, ◌≤◌, true, false, cond, ◌⊎◌, List, [], ◌∷◌, ◌++◌, map, length, get_or, take, drop, set, sym, refl, ap, ◌∙◌, subst, inl, inr, arith, length-set}
-use mathlib.Core.Path.{fun_ext}
-use Rattle.std.proofs.lemmas.List.{append-nil, get_or-map, get_or_default, map-set, length-map, drop_more, drop_all}
-use Rattle.std.proofs.lemmas.Bool.{cond-true, cond-false, cases_Bool}
+use Rattle.std.proofs.Common.{◌≡◌, ℕ, suc, ◌+◌, ◌<◌, ◌≤◌, List, [], ◌∷◌, ◌++◌, map, length, get_or, drop, set, sym, refl, ap, ◌∙◌, subst, arith, length-set}
+use Rattle.std.proofs.lemmas.List.{get_or-map, length-map, drop_more, drop_all}
 use Rattle.register.specs.Books.{Book}
 use Rattle.register.specs.Moves.{Move}
 use Rattle.rules.specs.declared.bid.Side.TheVariants.{Buy, Sell}
-use Rattle.model.specs.declared.words.Standing.{Standing}
 use Rattle.model.specs.declared.words.Listing.{Listing}
-use Rattle.model.specs.Market.{ticker_known}
 use Rattle.model.specs.Movements.{Granted, moved_all, freeing}
 use Rattle.model.specs.Listings.{asset_of_lem}
 use Rattle.model.specs.World.{Sheet, blank_sheet}

@@ -1,5 +1,5 @@
 -- What the standing bids of queues, tickers and the whole floor release when they are void.
-use Rattle.std.specs.Prelude.{ℕ, List, [], ◌∷◌, ◌++◌, map, Some}
+use Rattle.std.specs.Prelude.{ℕ, List, ◌++◌, map, Some}
 use Rattle.std.specs.List.{flat_map}
 use Rattle.register.specs.Moves.{Move, Release}
 use Rattle.rules.specs.declared.bid.Side.{Side}

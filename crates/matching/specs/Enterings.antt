@@ -1,5 +1,5 @@
 -- A bid and the books of its ticker.
-use Rattle.std.specs.Prelude.{◌≡◌, ℕ, ◌+◌, ◌-◌, ◌^◌, ◌<◌, ◌≤◌, Bool, cond, not, ◌&&◌, ◌⊎◌, List, [], ◌∷◌, ◌++◌, length, drop, Some, None, Option, ◌==◌}
+use Rattle.std.specs.Prelude.{◌≡◌, ℕ, ◌+◌, ◌^◌, ◌<◌, ◌≤◌, Bool, cond, not, ◌&&◌, ◌⊎◌, List, ◌++◌, length, drop, Some, None, Option, ◌==◌}
 use Rattle.register.specs.Books.{Book}
 use Rattle.register.specs.Moves.{Move, Release}
 use Rattle.register.specs.declared.slips.Slip.{Slip}
@@ -21,7 +21,7 @@ use Rattle.model.specs.Calls.{counted}
 use Rattle.matching.specs.declared.newcomers.Newcomer.{Newcomer}
 use Rattle.matching.specs.declared.entering.Outlook.{Outlook}
 use Rattle.matching.specs.Dealing.{mine_of, met_by, asset_by}
-use Rattle.matching.specs.Meetings.{Ready, Swept, settling, slip_for}
+use Rattle.matching.specs.Meetings.{Swept, settling, slip_for}
 
 -- what it makes of the queue it faces, in a session
 abbrev pub encounter_by : Session → Newcomer → List Standing → Met

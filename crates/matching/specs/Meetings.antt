@@ -1,5 +1,5 @@
 -- What one trade of a newcomer asks and leaves, and what a whole meeting does.
-use Rattle.std.specs.Prelude.{◌≡◌, ℕ, ◌+◌, ◌-◌, ◌*◌, ◌<◌, ◌≤◌, true, List, [], ◌∷◌, ◌++◌, length, drop, Some, None, Option}
+use Rattle.std.specs.Prelude.{◌≡◌, ℕ, ◌+◌, ◌-◌, ◌≤◌, true, List, ◌++◌, length, drop, Some, None, Option}
 use Rattle.std.specs.List.{flat_map}
 use Rattle.register.specs.Books.{Book}
 use Rattle.register.specs.Moves.{Move}

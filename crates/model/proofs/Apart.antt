@@ -1,6 +1,6 @@
 -- A floor that is taken apart.
-use Rattle.model.specs.Words.{ℕ, ◌+◌, ◌≡◌, refl, true, false, List, [], ◌∷◌, ◌++◌, map, joined, All}
-use Rattle.std.proofs.Common.{◌⊎◌, sym, ap, ◌∙◌, subst, inl, inr, arith}
+use Rattle.model.specs.Words.{ℕ, refl, true, false, List, [], map, joined, AllByRecursion}
+use Rattle.std.proofs.Common.{◌≡◌, ◌∷◌, ◌++◌, ◌⊎◌, sym, ap, ◌∙◌, subst, inl, inr, arith}
 use Rattle.std.proofs.lemmas.Bool.{cases_Bool}
 use Rattle.model.specs.Market.{Side, Buy, Sell, Standing, is_closed, tickers}
 use Rattle.model.specs.World.{World, queue, made}
@@ -15,7 +15,7 @@ use Rattle.register.specs.Books.{Book}
 use Rattle.register.specs.Moves.{Move}
 use Rattle.rules.specs.Rules.{Rule}
 
-joined-none : {X Y : Type 0} (f : X → List Y) (xs : List X) → All (λ x. f x ≡ []) xs → joined f xs ≡ []
+joined-none : {X Y : Type 0} (f : X → List Y) (xs : List X) → AllByRecursion (λ x. f x ≡ []) xs → joined f xs ≡ []
 joined-none f [] a = refl
 joined-none f (x ∷ xs) a = ap (λ (z : List _). z ++ joined f xs) a.0 ∙ joined-none f xs a.1
 

@@ -1,7 +1,6 @@
 -- The opening keeps the invariant, and its movements are granted.
-use Rattle.model.specs.Words.{ℕ, ◌+◌, ◌-◌, ◌*◌, ◌%◌, ◌≤◌, ◌<◌, ◌≡◌, refl, Bool, true, false, cond, leb, ltb, List, [], ◌∷◌, ◌++◌, joined, All, length, sum_of, Option, Some, None, only, Memᴰ}
-use Rattle.std.proofs.Common.{sym, ap, ◌∙◌, subst, arith}
-use mathlib.Core.List.Memᴰ
+use Rattle.model.specs.Words.{ℕ, refl, Bool, true, false, cond, leb, ltb, List, [], joined, AllByRecursion, length, sum_of, Option, Some, None, only, Memᴰ}
+use Rattle.std.proofs.Common.{◌+◌, ◌*◌, ◌%◌, ◌≤◌, ◌<◌, ◌≡◌, ◌∷◌, ◌++◌, sym, ap, ◌∙◌, subst, arith}
 use Rattle.std.proofs.ByRecursion.{All-weaker}
 use Rattle.std.proofs.lemmas.Bool.{true≢false, ltb-false}
 use Rattle.model.specs.Market.{Side, Buy, Sell, Session, Closed, PreTrading, Trading, PostTrading, is_closed, is_pre_trading, Standing, Trade, Listing, Open, tickers, queue_places}
@@ -35,7 +34,7 @@ use Rattle.rules.specs.Bids.{most_price}
 use Rattle.rules.specs.Rules.{Rule}
 
 abbrev Whole : ℕ → List Standing → Type 0
-Whole step q = All (λ x. x.lots % step ≡ 0) q
+Whole step q = AllByRecursion (λ x. x.lots % step ≡ 0) q
 
 length-join : (xs ys : List Deal) → length (trades_of (xs ++ ys)) ≡ length (trades_of xs) + length (trades_of ys)
 length-join [] ys = omega arith
@@ -148,17 +147,17 @@ clears l t step o (b ∷ buys) sells u v =
         }
 
 -- ---- the opening of one sheet
-pub all-mem : {X : Type 0} (P : X → Type 0) {x : X} {xs : List X} → All P xs → Memᴰ x xs → P x
+pub all-mem : {X : Type 0} (P : X → Type 0) {x : X} {xs : List X} → AllByRecursion P xs → Memᴰ x xs → P x
 all-mem P a (Memᴰ.head e) = subst P (sym e) a.0
 all-mem P a (Memᴰ.tail m) = all-mem P a.1 m
 
 pub record Opens (l : Listing) (t step : ℕ) (buys sells : List Standing) (r : Opened) : Type 0 where
   pub clearing : Clears l t step buys sells r
-  pub payable : All (Payable t) r.deals
-  pub prices : All (λ x. (1 ≤ x.price) × (x.price ≤ most_price)) (trades_of r.deals)
+  pub payable : AllByRecursion (Payable t) r.deals
+  pub prices : AllByRecursion (λ x. (1 ≤ x.price) × (x.price ≤ most_price)) (trades_of r.deals)
   pub buys_served : Served buys r.buys
   pub sells_served : Served sells r.sells
-  pub apart : All (λ b. All (λ x. b.price < x.price) r.sells) r.buys
+  pub apart : AllByRecursion (λ b. AllByRecursion (λ x. b.price < x.price) r.sells) r.buys
 
 -- with no opening price, there is no buy
 priceless : (buys sells : List Standing) → opening_price_lem buys sells ≡ None → buys ≡ []
@@ -166,20 +165,20 @@ unfolding opening_price_lem
 priceless [] sells e = refl
 priceless (b ∷ buys) sells e = absurd (grind arith)
 
-both-all : {X : Type 0} (P Q : X → Type 0) (xs : List X) → All P xs → All Q xs → All (λ x. P x × Q x) xs
+both-all : {X : Type 0} (P Q : X → Type 0) (xs : List X) → AllByRecursion P xs → AllByRecursion Q xs → AllByRecursion (λ x. P x × Q x) xs
 both-all P Q [] a b = tt
 both-all P Q (x ∷ xs) a b = ((a.0, b.0), both-all P Q xs a.1 b.1)
 
-from-trades : (P : Trade → Type 0) (ds : List Deal) → All P (trades_of ds) → All (λ d. P d.trade) ds
+from-trades : (P : Trade → Type 0) (ds : List Deal) → AllByRecursion P (trades_of ds) → AllByRecursion (λ d. P d.trade) ds
 from-trades P [] a = tt
 from-trades P (d ∷ ds) a = (a.0, from-trades P ds a.1)
 
-module _ (l : Listing) (t step given : ℕ) (buys sells : List Standing) (fb : All (Fit step given) buys) (fs : All (Fit step given) sells)
+module _ (l : Listing) (t step given : ℕ) (buys sells : List Standing) (fb : AllByRecursion (Fit step given) buys) (fs : AllByRecursion (Fit step given) sells)
     (rb : Ranked (by_price Buy) buys) (rs : Ranked (by_price Sell) sells) where
-  lots-of : (q : List Standing) → All (Fit step given) q → All (λ x. 1 ≤ x.lots) q
+  lots-of : (q : List Standing) → AllByRecursion (Fit step given) q → AllByRecursion (λ x. 1 ≤ x.lots) q
   lots-of q a = All-weaker (Fit step given) (λ x. 1 ≤ x.lots) (λ x f. f.fewest) q a
 
-  whole_of : (q : List Standing) → All (Fit step given) q → Whole step q
+  whole_of : (q : List Standing) → AllByRecursion (Fit step given) q → Whole step q
   whole_of q a = All-weaker (Fit step given) (λ x. x.lots % step ≡ 0) (λ x f. f.whole) q a
 
   reached-payable : (o : ℕ) (d : Deal) → Reached o buys sells d × ((d.trade.ticker ≡ t) × (d.trade.price ≡ o)) → Payable t d
@@ -209,7 +208,7 @@ module _ (l : Listing) (t step given : ℕ) (buys sells : List Standing) (fb : A
             prices = tt;
             buys_served = none;
             sells_served = none;
-            apart = subst (λ (q : List Standing). All (λ b. All (λ x. b.price < x.price) sells) q) (sym (priceless buys sells e)) tt;
+            apart = subst (λ (q : List Standing). AllByRecursion (λ b. AllByRecursion (λ x. b.price < x.price) sells) q) (sym (priceless buys sells e)) tt;
           }
       by (Some o) e =
           let c = at-price o e (opening-clears t o buys sells rb rs (lots-of buys fb) (lots-of sells fs) e) in
@@ -245,7 +244,7 @@ module _ (r : Rule) (w : World) (s : Sound r.step w) (pre : w.session ≡ PreTra
       let o = opened-at t in
       let c = cost-bounds (trades_of (opened_at w t).deals) o.prices in
       record {
-        fit = by_side (λ side. All (Fit r.step w.given) (queue_of (open_sheet w t) side)) (served-fit r.step w.given o.buys_served o.clearing.buys_whole (s.fit t Buy)) (served-fit r.step w.given o.sells_served o.clearing.sells_whole (s.fit t Sell));
+        fit = by_side (λ side. AllByRecursion (Fit r.step w.given) (queue_of (open_sheet w t) side)) (served-fit r.step w.given o.buys_served o.clearing.buys_whole (s.fit t Buy)) (served-fit r.step w.given o.sells_served o.clearing.sells_whole (s.fit t Sell));
         places = by_side (λ side. length (queue_of (open_sheet w t) side) ≤ queue_places) (omega (arith, served-length o.buys_served, s.places t Buy)) (omega (arith, served-length o.sells_served, s.places t Sell));
         ranked = by_side (λ side. Ranked (by_price side) (queue_of (open_sheet w t) side)) (served-ranked (by_price Buy) (price-blind Buy) o.buys_served (ranked-by-price t Buy)) (served-ranked (by_price Sell) (price-blind Sell) o.sells_served (ranked-by-price t Sell));
         strange = λ side e. by_side (λ side. queue_of (open_sheet w t) side ≡ []) (served-nothing o.buys_served (s.strange t Buy e)) (served-nothing o.sells_served (s.strange t Sell e)) side;

@@ -1,6 +1,6 @@
 -- The tally's sums and the accounts, call by call.
-use Rattle.model.specs.Words.{ℕ, ◌+◌, ◌-◌, ◌≡◌, refl, List, [], ◌∷◌, None}
-use Rattle.std.proofs.Common.{sym, ap, ◌∙◌, arith}
+use Rattle.model.specs.Words.{ℕ, refl, List, [], None}
+use Rattle.std.proofs.Common.{◌+◌, ◌≡◌, ◌∷◌, sym, ap, ◌∙◌, arith}
 use Rattle.model.specs.Market.{Call, Start, Deposit, Withdraw, Place, Cancel, Open, EndTrading, EndPostTrading, Listing, Trade, Buy, Sell}
 use Rattle.model.specs.World.{World, queue, made}
 use Rattle.model.specs.Checks.{why, checks}
@@ -76,7 +76,7 @@ runs-balanced r lawful w y [] s t = t
 runs-balanced r lawful w y (c ∷ cs) s t =
     runs-balanced r lawful (after r w c) (tallied (entry_of r w c) y) cs (calls-keep-sound r lawful w c s) (stepping Balanced r w c y t (λ e. next-balanced r lawful w c y s e t))
 
-pub accounts-come-out : AccountsComeOut 16 12
+pub accounts-come-out : AccountsComeOut
 accounts-come-out r lawful b y cs =
     let t = runs-balanced r lawful (made b) (blank b) cs (made-sound r.step b) (made-balanced b y) in
     record { totals = t.sums; obliged = t.blocked }

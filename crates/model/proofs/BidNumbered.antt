@@ -1,6 +1,6 @@
 -- A bid on a sound floor is refused by 3 to 9, 21 to 24, 10, 34 and 35 alone.
-use Rattle.model.specs.Words.{ℕ, ◌+◌, ◌≡◌, refl, Bool, true, false, cond, ◌&&◌, leb, ltb, eqb, List, [], ◌∷◌, any_of, Option, Some, None}
-use Rattle.std.proofs.Common.{subst, arith}
+use Rattle.model.specs.Words.{ℕ, refl, Bool, true, false, cond, leb, ltb, eqb, List, [], any_of, Option, Some, None}
+use Rattle.std.proofs.Common.{◌+◌, ◌≡◌, ◌&&◌, ◌∷◌, subst, arith}
 use Rattle.std.proofs.lemmas.Bool.Decides.{nat_tests}
 use Rattle.std.proofs.lemmas.Bool.{and_parts}
 use Rattle.model.specs.Market.{Session, Closed, PreTrading, Trading, PostTrading, is_closed, serves, Bid, Place, Refused, Fault, RuleRefusal, RegisterFault, ticker_known, most_numbers, bid_room}

@@ -1,7 +1,6 @@
 -- A bid as a whole: what stands of it, and that its block comes out.
-use Rattle.model.specs.Words.{ℕ, ◌+◌, ◌*◌, ◌<◌, ◌≡◌, refl, Bool, true, false, cond, not, ◌&&◌, ltb, eqb, ◌≢◌, List, [], ◌∷◌, All, Memᴰ, Option, Some, None, is_some, any_of, sum_of}
-use Rattle.std.proofs.Common.{sym, ap, ◌∙◌, arith}
-use mathlib.Core.List.Memᴰ
+use Rattle.model.specs.Words.{ℕ, refl, Bool, true, false, cond, not, ltb, eqb, List, [], AllByRecursion, Memᴰ, Option, Some, None, is_some, any_of, sum_of}
+use Rattle.std.proofs.Common.{◌+◌, ◌*◌, ◌<◌, ◌≡◌, ◌&&◌, ◌≢◌, ◌∷◌, sym, ap, ◌∙◌, arith}
 use Rattle.std.proofs.lemmas.Bool.Decides.{nat_tests}
 use Rattle.std.proofs.lemmas.Bool.{cond-true, cond-false, eq-eqb, ne_eqb, or_left, or_right, or_from}
 use Rattle.std.proofs.ByRecursion.{All-weaker}
@@ -138,7 +137,7 @@ module _ {X : Type 0} (p : X → Bool) where
   any-mem {x} (Memᴰ.head {x = y} {xs = xs} e) h = or_left (p y) (any_of p xs) (sym (ap p e) ∙ h)
   any-mem {x} (Memᴰ.tail {x = y} {xs = xs} m) h = or_right (p y) (any_of p xs) (any-mem m h)
 
-  any_none : (xs : List X) → All (λ x. p x ≡ false) xs → any_of p xs ≡ false
+  any_none : (xs : List X) → AllByRecursion (λ x. p x ≡ false) xs → any_of p xs ≡ false
   any_none [] a = refl
   any_none (x ∷ xs) a = or_from (p x) (any_of p xs) a.0 (any_none xs a.1)
 

@@ -1,6 +1,6 @@
 -- A cancellation takes out one bid, its holder's own.
-use Rattle.model.specs.Words.{ℕ, ◌+◌, ◌≤◌, ◌≡◌, ◌≢◌, refl, Bool, true, false, not, ◌||◌, eqb, List, [], ◌∷◌, ◌++◌, Option, Some, None, only, kept, any_of, sum_of}
-use Rattle.std.proofs.Common.{◌⊎◌, sym, ap, ◌∙◌, subst, inl, inr, arith}
+use Rattle.model.specs.Words.{ℕ, refl, Bool, true, false, not, eqb, List, [], Option, Some, None, only, kept, any_of, sum_of}
+use Rattle.std.proofs.Common.{◌+◌, ◌≤◌, ◌≡◌, ◌≢◌, ◌||◌, ◌∷◌, ◌++◌, ◌⊎◌, sym, ap, ◌∙◌, subst, inl, inr, arith}
 use Rattle.std.proofs.lemmas.Bool.Decides.{nat_tests}
 use Rattle.std.proofs.lemmas.Bool.{true≢false, cases_Bool, or_cases, and_parts, eqb-true}
 use Rattle.model.specs.Market.{Side, Buy, Sell, other, Session, Standing, Cancel, Cancelled, Refused, Cause}

@@ -1,6 +1,6 @@
 -- The laws of the checks: one induction over the list of checks.
-use Rattle.model.specs.Words.{◌≡◌, refl, List, [], ◌∷◌, ◌++◌, All, Some, None}
-use Rattle.std.proofs.Common.{◌⊎◌, sym, ap, ◌∙◌, inl, inr, arith}
+use Rattle.model.specs.Words.{refl, List, [], AllByRecursion, Some, None}
+use Rattle.std.proofs.Common.{◌≡◌, ◌∷◌, ◌++◌, ◌⊎◌, sym, ap, ◌∙◌, inl, inr, arith}
 use Rattle.model.specs.Market.{Call, Start, Deposit, Withdraw, Place, Cancel, Open, EndTrading, EndPostTrading, Cause, Refused, Fault}
 use Rattle.model.specs.World.{World}
 use Rattle.model.specs.Checks.{Check, checks, why, first_failing, or_next}
@@ -11,8 +11,8 @@ use Rattle.rules.specs.Rules.{Rule}
 
 -- ---- the first failing check
 data First : List Check → Check → Type 0 where
-  all : {cs : List Check} → All (λ x. x ≡ None) cs → First cs None
-  fails : {cs : List Check} (e : Cause) (front behind : List Check) → cs ≡ front ++ Some e ∷ behind → All (λ x. x ≡ None) front → First cs (Some e)
+  all : {cs : List Check} → AllByRecursion (λ x. x ≡ None) cs → First cs None
+  fails : {cs : List Check} (e : Cause) (front behind : List Check) → cs ≡ front ++ Some e ∷ behind → AllByRecursion (λ x. x ≡ None) front → First cs (Some e)
 
 first_more : (c : Check) (cs : List Check) (f : Check) → First cs f → First (c ∷ cs) (or_next c f)
 first_more (Some e) cs f k = fails e [] cs refl tt
@@ -34,7 +34,7 @@ accepted-is-no-refusal w EndTrading f e = grind arith
 accepted-is-no-refusal w EndPostTrading f e = grind arith
 
 -- what becomes of a call, by why it is refused
-pub when-passed : (r : Rule) (w : World) (c : Call) → why r w c ≡ None → All (λ x. x ≡ None) (checks r w c) → Registered r w c
+pub when-passed : (r : Rule) (w : World) (c : Call) → why r w c ≡ None → AllByRecursion (λ x. x ≡ None) (checks r w c) → Registered r w c
 unfolding answer trades moves after
 when-passed r w c e a = record {
   passed = a;
@@ -45,7 +45,7 @@ when-passed r w c e a = record {
 }
 
 pub when-refused : (r : Rule) (w : World) (c : Call) (x : Cause) (front behind : List Check) → why r w c ≡ Some x
-    → checks r w c ≡ front ++ Some x ∷ behind → All (λ y. y ≡ None) front → RefusedByFirst r w c
+    → checks r w c ≡ front ++ Some x ∷ behind → AllByRecursion (λ y. y ≡ None) front → RefusedByFirst r w c
 unfolding answer trades moves after
 when-refused r w c x front behind e o a =
     record {

@@ -1,6 +1,6 @@
 -- The opening's trades: one recursion over the buys, each of which meets the sells that are left.
-use Rattle.model.specs.Words.{ℕ, ◌+◌, ◌≤◌, ◌<◌, ◌≡◌, refl, Bool, true, false, cond, leb, ltb, eqb, List, [], ◌∷◌, ◌++◌, map, length, All, only}
-use Rattle.std.proofs.Common.{◌⊎◌, sym, subst, inl, inr, arith}
+use Rattle.model.specs.Words.{ℕ, refl, Bool, true, false, cond, leb, ltb, eqb, List, [], map, length, AllByRecursion, only}
+use Rattle.std.proofs.Common.{◌+◌, ◌≤◌, ◌<◌, ◌≡◌, ◌∷◌, ◌++◌, ◌⊎◌, sym, subst, inl, inr, arith}
 use mathlib.Core.List.Memᴰ
 use Rattle.std.proofs.lemmas.Bool.Decides.{nat_tests}
 use Rattle.std.proofs.ByRecursion.{All-weaker, All-append}
@@ -27,14 +27,14 @@ length-append (x ∷ xs) ys = let ih = length-append xs ys in omega arith
 -- ---- the best buy meets the sells, and the others go on
 module _ (t o : ℕ) (b : Standing) (buys sells : List Standing) (rb : Ranked (by_price Buy) (b ∷ buys)) (rs : Ranked (by_price Sell) sells)
     (lb : Lots (b ∷ buys)) (ls : Lots sells) (m : Met) (g : Meets (λ p. leb p o) (auctioned t o b) b.lots sells m)
-    (r : Opened) (c : Clearing t o buys m.queue r) (same : All (λ s. leb s.price o ≡ false) m.queue → r.buys ≡ buys) where
+    (r : Opened) (c : Clearing t o buys m.queue r) (same : AllByRecursion (λ s. leb s.price o ≡ false) m.queue → r.buys ≡ buys) where
   joint : Opened
   joint = record { deals = m.deals ++ r.deals; buys = only (ltb 0 m.left) (with_lots b m.left) ++ r.buys; sells = r.sells }
 
   own : traded m.deals + m.left ≡ b.lots
   own = meets-own (λ x k. refl) g
 
-  mine : All (λ d. d.trade.buy ≡ b.number) m.deals
+  mine : AllByRecursion (λ d. d.trade.buy ≡ b.number) m.deals
   mine = meets-made (λ d. d.trade.buy ≡ b.number) g (λ x k i e. refl)
 
   rest-demand : (p : ℕ) → demand joint.buys p ≡ cond (leb p b.price) m.left 0 + demand r.buys p
@@ -81,7 +81,7 @@ module _ (t o : ℕ) (b : Standing) (buys sells : List Standing) (rb : Ranked (b
       split true e = some_left (grind (arith, nat_tests)) (cases_lt m.left b.lots)
       split false e = whole c.buys_served
 
-  own-reached : leb o b.price ≡ true → All (Reached o (b ∷ buys) sells) m.deals
+  own-reached : leb o b.price ≡ true → AllByRecursion (Reached o (b ∷ buys) sells) m.deals
   own-reached e = meets-made (Reached o (b ∷ buys) sells) g (λ x k i f. record {
     bid = b;
     offer = x;

@@ -1,6 +1,6 @@
 -- What an opening at a price owes; and that the buys stay as they are where no sell reaches the price.
-use Rattle.model.specs.Words.{ℕ, ◌+◌, ◌-◌, ◌≤◌, ◌≡◌, refl, Bool, true, false, cond, leb, ltb, List, [], ◌∷◌, ◌++◌, map, length, All, only, min}
-use Rattle.std.proofs.Common.{sym, ap, ◌∙◌, subst, arith}
+use Rattle.model.specs.Words.{ℕ, refl, Bool, true, false, cond, leb, ltb, List, [], map, length, AllByRecursion, only, min}
+use Rattle.std.proofs.Common.{◌+◌, ◌-◌, ◌≤◌, ◌≡◌, ◌∷◌, ◌++◌, sym, ap, ◌∙◌, subst, arith}
 use Rattle.std.proofs.lemmas.Bool.Decides.{nat_tests}
 use Rattle.model.specs.Market.{Buy, Sell, Standing}
 use Rattle.model.specs.Queues.{with_lots}
@@ -12,7 +12,7 @@ use Rattle.model.specs.OpeningLaws.{Reached, Conserved}
 use Rattle.model.proofs.Uncrossing.{traded, meet-none}
 
 abbrev pub Lots : List Standing → Type 0
-Lots q = All (λ x. 1 ≤ x.lots) q
+Lots q = AllByRecursion (λ x. 1 ≤ x.lots) q
 
 -- where no sell reaches the price, the buys stay as they are
 joined_back : (b : Standing) (buys : List Standing) → 1 ≤ b.lots → only (ltb 0 b.lots) (with_lots b b.lots) ++ buys ≡ b ∷ buys
@@ -22,7 +22,7 @@ joined_back b buys h = step (ltb 0 b.lots) refl
     step true e = refl
     step false e = absurd (grind (arith, nat_tests))
 
-pub still : (t o : ℕ) (buys sells : List Standing) → Lots buys → All (λ s. leb s.price o ≡ false) sells → (uncross t o buys sells).buys ≡ buys
+pub still : (t o : ℕ) (buys sells : List Standing) → Lots buys → AllByRecursion (λ s. leb s.price o ≡ false) sells → (uncross t o buys sells).buys ≡ buys
 unfolding uncross
 still t o [] sells a h = refl
 still t o (b ∷ buys) sells a h = step (leb o b.price) (still t o buys sells a.1 h)
@@ -44,8 +44,8 @@ pub record Clearing (t o : ℕ) (buys sells : List Standing) (r : Opened) : Type
   pub demanded : (p : ℕ) → demand r.buys p ≡ demand buys p - traded r.deals
   pub buys_lots : Lots r.buys
   pub sells_lots : Lots r.sells
-  pub price : All (λ d. (d.trade.ticker ≡ t) × (d.trade.price ≡ o)) r.deals
-  pub reached : All (Reached o buys sells) r.deals
+  pub price : AllByRecursion (λ d. (d.trade.ticker ≡ t) × (d.trade.price ≡ o)) r.deals
+  pub reached : AllByRecursion (Reached o buys sells) r.deals
   pub buys_order : Along (map (number_in Buy) (trades_of r.deals)) (numbers_of buys)
   pub sells_order : Along (map (number_in Sell) (trades_of r.deals)) (numbers_of sells)
   pub buys_served : Served buys r.buys

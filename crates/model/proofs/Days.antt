@@ -1,6 +1,6 @@
 -- The numbers of a day, over the log of any calls.
-use Rattle.model.specs.Words.{ℕ, suc, ◌+◌, ◌≤◌, ◌<◌, ◌≡◌, refl, Bool, true, false, List, [], ◌∷◌, ◌++◌, All, Option, Some, None}
-use Rattle.std.proofs.Common.{sym, ap, ◌∙◌, subst, arith}
+use Rattle.model.specs.Words.{ℕ, suc, refl, Bool, true, false, List, [], AllByRecursion, Option, Some, None}
+use Rattle.std.proofs.Common.{◌≤◌, ◌<◌, ◌≡◌, ◌∷◌, ◌++◌, sym, ap, ◌∙◌, subst, arith}
 use Rattle.std.proofs.lemmas.Bool.{true≢false}
 use Rattle.model.specs.Market.{Call, Start, Deposit, Withdraw, Place, Cancel, Open, EndTrading, EndPostTrading, Cause, Listing, Receipt}
 use Rattle.model.specs.Market.{Answer, Done, Placed, Cancelled, Opened, Refused}
@@ -82,7 +82,7 @@ empty-not e (f ∷ front) ys p = let z : ◌≡◌ {A = ℕ} 0 1 = cc in omega a
 
 -- a later bid's number is above all that were given
 later : (r : Rule) (w : World) (cs : List Call) (middle behind : List Entry) (e : Entry) (y : Receipt)
-    → log r w cs ≡ middle ++ e ∷ behind → All NoStart middle → e.answer ≡ Placed y → w.given < y.number
+    → log r w cs ≡ middle ++ e ∷ behind → AllByRecursion NoStart middle → e.answer ≡ Placed y → w.given < y.number
 later r w [] middle behind e y p still q = absurd (empty-not e middle behind p)
 later r w (c ∷ cs) [] behind e y p still q =
     let h = head-is (entry_of r w c) e (log r (after r w c) cs) behind p in

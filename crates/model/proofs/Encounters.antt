@@ -1,6 +1,6 @@
 -- What a bid makes of the other queue, in each session: all that the invariant asks of it.
-use Rattle.model.specs.Words.{ℕ, ◌+◌, ◌-◌, ◌%◌, ◌≤◌, ◌<◌, ◌≡◌, refl, Bool, true, false, cond, not, ◌&&◌, ltb, List, [], All, length, sum_of, Option, Some, None, is_some}
-use Rattle.std.proofs.Common.{sym, ◌∙◌, arith}
+use Rattle.model.specs.Words.{ℕ, refl, Bool, true, false, cond, not, ltb, List, [], AllByRecursion, length, sum_of, Option, Some, None, is_some}
+use Rattle.std.proofs.Common.{◌+◌, ◌%◌, ◌≤◌, ◌<◌, ◌≡◌, ◌&&◌, sym, ◌∙◌, arith}
 use Rattle.std.proofs.lemmas.Bool.Decides.{nat_tests}
 use Rattle.std.proofs.lemmas.Bool.{true≢false}
 use Rattle.model.specs.Market.{Side, Buy, Sell, other, Session, Closed, PreTrading, Trading, PostTrading, is_trading, Bid, Standing, Listing}
@@ -22,7 +22,7 @@ use Rattle.ranking.specs.Ranks.{Ranked}
 use Rattle.rules.specs.Bids.{most_price, obligation_of}
 
 pub record Faced (l : Listing) (step : ℕ) (b : Bid) (limit : Option ℕ) (q : List Standing) (session : Session) (m : Met) : Type 0 where
-  pub payable : All (Payable b.ticker) m.deals
+  pub payable : AllByRecursion (Payable b.ticker) m.deals
   pub uses : (h a : ℕ) → sum_of (λ d. uses (quote_of l b.ticker).currency d h a) m.deals + owing l b.ticker (other b.side) m.queue h a
       ≡ owing l b.ticker (other b.side) q h a + at b.holder (asset_of_lem l b.ticker b.side) (spent b.side m.deals) h a
   pub blocks : spent b.side m.deals + obligation_of b.side limit m.left ≡ to_block b.side limit b.lots (trades_of m.deals)
@@ -30,13 +30,13 @@ pub record Faced (l : Listing) (step : ℕ) (b : Bid) (limit : Option ℕ) (q : 
   pub theirs : standing_lots q ≡ lots_of (trades_of m.deals) + standing_lots m.queue
   pub count : length (trades_of m.deals) ≤ length q
   pub left_steps : m.left % step ≡ 0
-  pub steps : All (λ x. x.lots % step ≡ 0) m.queue
-  pub prices : All (λ x. (1 ≤ x.price) × (x.price ≤ most_price)) (trades_of m.deals)
+  pub steps : AllByRecursion (λ x. x.lots % step ≡ 0) m.queue
+  pub prices : AllByRecursion (λ x. (1 ≤ x.price) × (x.price ≤ most_price)) (trades_of m.deals)
   pub served : Served q m.queue
-  pub done : is_trading session ≡ true → b.entire ≡ false → Ranked (by_price (other b.side)) q → 0 < m.left → All (λ x. crosses b.side limit x.price ≡ false) m.queue
+  pub done : is_trading session ≡ true → b.entire ≡ false → Ranked (by_price (other b.side)) q → 0 < m.left → AllByRecursion (λ x. crosses b.side limit x.price ≡ false) m.queue
 
 module _ (l : Listing) (step number : ℕ) (b : Bid) (limit : Option ℕ) (q : List Standing) (i : b.holder < 16) (e : b.lots % step ≡ 0)
-    (hs : All (λ x. x.holder < 16) q) (ss : All (λ x. x.lots % step ≡ 0) q) (ps : All (λ x. (1 ≤ x.price) × (x.price ≤ most_price)) q) where
+    (hs : AllByRecursion (λ x. x.holder < 16) q) (ss : AllByRecursion (λ x. x.lots % step ≡ 0) q) (ps : AllByRecursion (λ x. (1 ≤ x.price) × (x.price ≤ most_price)) q) where
   -- nothing trades
   still-blocks : (side : Side) (limit : Option ℕ) (n : ℕ) → 0 + obligation_of side limit n ≡ to_block side limit n []
   still-blocks Buy None n = omega arith

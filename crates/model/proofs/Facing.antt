@@ -1,6 +1,6 @@
 -- What a newcomer's meeting with the other queue does to obligations, lots, steps and numbers.
-use Rattle.model.specs.Words.{ℕ, ◌+◌, ◌-◌, ◌*◌, ◌%◌, ◌≤◌, ◌<◌, ◌≡◌, refl, Bool, true, List, All, length, sum_of, Option, Some, None, or_else}
-use Rattle.std.proofs.Common.{sym, ap, ◌∙◌, subst, arith}
+use Rattle.model.specs.Words.{ℕ, refl, Bool, true, List, AllByRecursion, length, sum_of, Option, Some, None, or_else}
+use Rattle.std.proofs.Common.{◌+◌, ◌-◌, ◌*◌, ◌%◌, ◌≤◌, ◌<◌, ◌≡◌, sym, ap, ◌∙◌, subst, arith}
 use native.Mathlib.Nat.{mod-add-mod, zero-mod}
 use Rattle.std.proofs.lemmas.Bool.{leb-true}
 use Rattle.model.specs.Market.{Side, Buy, Sell, other, Bid, Standing, Listing}
@@ -55,13 +55,13 @@ served-lots (part n z l) = omega arith
 served-lots (whole s) = omega (arith, served-lots s)
 
 -- what is known of holder, number and price stays known
-pub served-all : {q r : List Standing} (P : Standing → Type 0) → ((x : Standing) (n : ℕ) → P x → P (with_lots x n)) → Served q r → All P q → All P r
+pub served-all : {q r : List Standing} (P : Standing → Type 0) → ((x : Standing) (n : ℕ) → P x → P (with_lots x n)) → Served q r → AllByRecursion P q → AllByRecursion P r
 served-all P h none a = a
 served-all P h (part {x = x} n z l) a = (h x n a.0, a.1)
 served-all P h (whole s) a = served-all P h s a.1
 
 -- and a fit queue stays fit where the lots left are whole steps
-pub served-fit : (step given : ℕ) {q r : List Standing} → Served q r → All (λ x. x.lots % step ≡ 0) r → All (Fit step given) q → All (Fit step given) r
+pub served-fit : (step given : ℕ) {q r : List Standing} → Served q r → AllByRecursion (λ x. x.lots % step ≡ 0) r → AllByRecursion (Fit step given) q → AllByRecursion (Fit step given) r
 served-fit step given none u a = a
 served-fit step given (part {x = x} n z l) u a =
     let f = a.0 in
@@ -86,8 +86,8 @@ module _ {test : ℕ → Bool} {deal : Standing → ℕ → Deal} where
   meets-fewer (every e z u g) = omega (arith, meets-fewer g)
 
   -- whole steps meet whole steps, and leave whole steps
-  pub meets-steps : (step : ℕ) {n : ℕ} {q : List Standing} {m : Met} → Meets test deal n q m → n % step ≡ 0 → All (λ x. x.lots % step ≡ 0) q
-      → (m.left % step ≡ 0) × All (λ x. x.lots % step ≡ 0) m.queue
+  pub meets-steps : (step : ℕ) {n : ℕ} {q : List Standing} {m : Met} → Meets test deal n q m → n % step ≡ 0 → AllByRecursion (λ x. x.lots % step ≡ 0) q
+      → (m.left % step ≡ 0) × AllByRecursion (λ x. x.lots % step ≡ 0) m.queue
   meets-steps step empty e a = (e, a)
   meets-steps step (enough _) e a = (e, a)
   meets-steps step (stopped _) e a = (e, a)
@@ -131,7 +131,7 @@ module _ (l : Listing) (number : ℕ) (b : Bid) (limit : Option ℕ) where
     abbrev Meeting : ℕ → List Standing → Met → Type 0
     Meeting n q m = Meets (crosses side limit) (taking number b limit side) n q m
 
-    pub meeting-payable : {n : ℕ} {q : List Standing} {m : Met} → b.holder < 16 → Meeting n q m → All (λ x. x.holder < 16) q → All (Payable b.ticker) m.deals
+    pub meeting-payable : {n : ℕ} {q : List Standing} {m : Met} → b.holder < 16 → Meeting n q m → AllByRecursion (λ x. x.holder < 16) q → AllByRecursion (Payable b.ticker) m.deals
     meeting-payable i empty a = tt
     meeting-payable i (enough e) a = tt
     meeting-payable i (stopped e) a = tt
@@ -168,7 +168,7 @@ module _ (l : Listing) (number : ℕ) (b : Bid) (limit : Option ℕ) where
     meeting-theirs (some {n} {x = x} e z u) = omega (arith, taking-lots side x n)
     meeting-theirs (every {x = x} e z u g) = omega (arith, meeting-theirs g, taking-lots side x x.lots)
 
-    pub meeting-prices : (P : ℕ → Type 0) {n : ℕ} {q : List Standing} {m : Met} → Meeting n q m → All (λ x. P x.price) q → All (λ x. P x.price) (trades_of m.deals)
+    pub meeting-prices : (P : ℕ → Type 0) {n : ℕ} {q : List Standing} {m : Met} → Meeting n q m → AllByRecursion (λ x. P x.price) q → AllByRecursion (λ x. P x.price) (trades_of m.deals)
     meeting-prices P empty a = tt
     meeting-prices P (enough e) a = tt
     meeting-prices P (stopped e) a = tt

@@ -1,6 +1,6 @@
 -- The corollaries.
-use Rattle.model.specs.Words.{ℕ, suc, ◌+◌, ◌-◌, ◌≤◌, ◌≡◌, refl, Bool, true, false, ltb, eqb, List, [], ◌∷◌, ◌++◌, map, joined, All, only, Option, Some, None}
-use Rattle.std.proofs.Common.{sym, ap, ◌∙◌, subst, arith}
+use Rattle.model.specs.Words.{ℕ, suc, refl, Bool, true, false, ltb, eqb, List, [], map, joined, AllByRecursion, only, Option, Some, None}
+use Rattle.std.proofs.Common.{◌+◌, ◌≤◌, ◌≡◌, ◌∷◌, ◌++◌, sym, ap, ◌∙◌, subst, arith}
 use Rattle.std.proofs.ByRecursion.{All-append}
 use Rattle.std.proofs.lemmas.Bool.{true≢false}
 use Rattle.model.specs.Market.{Call, Start, Deposit, Withdraw, Place, Cancel, Open, EndTrading, EndPostTrading, Receipt, Answer, Done, Placed, Cancelled, Opened, Cause, Refused, Side, Standing, Listing, tickers, Buy, Sell}
@@ -63,7 +63,7 @@ is_transfer (move.Release h a n) = true
 is_transfer (move.Pay h a n p) = true
 
 abbrev Transfers : List Move → Type 0
-Transfers ms = All (λ m. is_transfer m ≡ true) ms
+Transfers ms = AllByRecursion (λ m. is_transfer m ≡ true) ms
 
 one-total : (m : Move) (b : Book) (a : ℕ) → is_transfer m ≡ true → refusal b m ≡ None → total (moved b m) a ≡ total b a
 one-total (move.Deposit h x n) b a t e = absurd (true≢false (sym t))

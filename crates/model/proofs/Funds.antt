@@ -1,6 +1,6 @@
 -- On a sound floor a bid's block is refused by 34 and 35 alone.
-use Rattle.model.specs.Words.{ℕ, ◌-◌, ◌*◌, ◌≤◌, ◌≡◌, refl, Bool, true, false, cond, eqb, List, All, Option, Some, None}
-use Rattle.std.proofs.Common.{mul-le-mul, arith}
+use Rattle.model.specs.Words.{ℕ, refl, Bool, true, false, cond, eqb, List, AllByRecursion, Option, Some, None}
+use Rattle.std.proofs.Common.{◌*◌, ◌≤◌, ◌≡◌, mul-le-mul, arith}
 use Rattle.std.proofs.lemmas.Bool.Decides.{nat_tests}
 use Rattle.std.proofs.lemmas.Bool.{and_parts}
 use Rattle.std.proofs.ByRecursion.{All-weaker}
@@ -56,10 +56,10 @@ module _ (r : Rule) (w : World) (b : Bid) (sound : Sound r.step w) (within : wit
       step true e = average-most (w.sheets b.ticker) p (sound.dearest b.ticker) e
       step false e = within-price b p e within
 
-  prices-most : All (λ x. x.price ≤ most_price) (bid_trades w b)
+  prices-most : AllByRecursion (λ x. x.price ≤ most_price) (bid_trades w b)
   prices-most =
       let q = queue w b.ticker (other b.side) in
-      encounter-by w b (λ m. All (λ x. x.price ≤ most_price) (trades_of m.deals)) tt
+      encounter-by w b (λ m. AllByRecursion (λ x. x.price ≤ most_price) (trades_of m.deals)) tt
       (All-weaker (Fair b.side (limit_of w b) q) (λ x. x.price ≤ most_price)
       (λ x f. let e = f.price in let h = (all-mem (Fit r.step w.given) (sound.fit b.ticker (other b.side)) f.stood).highest in omega arith)
       (trades_of (meeting (next_number w) b (limit_of w b) q).deals) (matching-is-right (next_number w) b (limit_of w b) q).fair)

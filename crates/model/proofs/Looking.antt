@@ -1,6 +1,6 @@
 -- Looking: the account or ticker is there, or it is not.
-use Rattle.model.specs.Words.{ℕ, ◌≤◌, ◌<◌, ◌≡◌, refl, Bool, true, false, leb, ltb, None}
-use Rattle.std.proofs.Common.{Ok, sym, ap, subst, inl, inr}
+use Rattle.model.specs.Words.{ℕ, refl, Bool, true, false, leb, ltb, None}
+use Rattle.std.proofs.Common.{◌≤◌, ◌<◌, ◌≡◌, Ok, sym, ap, subst, inl, inr}
 use Rattle.std.proofs.lemmas.Bool.{cases_Bool, and_from, and_parts, ltb-true, leb-true, lt-ltb, le-leb}
 use Rattle.model.specs.Market.{NoHolderOrTicker, ticker_known}
 use Rattle.model.specs.World.{queue, average_of}

@@ -1,6 +1,6 @@
 -- A floor as it is made is sound, whatever its register holds.
-use Rattle.model.specs.Words.{ℕ, ◌≤◌, ◌≡◌, refl, true, [], length, All, Some}
-use Rattle.std.proofs.Common.{arith}
+use Rattle.model.specs.Words.{ℕ, refl, [], length, AllByRecursion, Some}
+use Rattle.std.proofs.Common.{◌≤◌, ◌≡◌, arith}
 use Rattle.std.proofs.lemmas.Bool.{true≢false}
 use Rattle.model.specs.Sound.{Fit, Sound, MadeFloorsAreSound}
 use Rattle.model.specs.Queues.{before}
@@ -11,7 +11,7 @@ use Rattle.register.specs.Books.{Book}
 
 pub made-sound : (step : ℕ) (b : Book) → Sound step (made b)
 made-sound step b = record {
-  fit = λ t. by_side (λ side. All (Fit step 0) (queue (made b) t side)) tt tt;
+  fit = λ t. by_side (λ side. AllByRecursion (Fit step 0) (queue (made b) t side)) tt tt;
   places = λ t. by_side (λ side. length (queue (made b) t side) ≤ 64) (omega arith) (omega arith);
   ranked = λ t. by_side (λ side. Ranked (before (made b).session side) (queue (made b) t side)) tt tt;
   once = λ k. omega arith;
@@ -20,7 +20,7 @@ made-sound step b = record {
   listing = λ e. refl;
   backed = λ e. absurd (true≢false e);
   uncrossed = λ e t. tt;
-  averaged = λ e t. by_side (λ side. All (λ x. average_of ((made b).sheets t) ≡ Some x.price) (queue (made b) t side)) tt tt;
+  averaged = λ e t. by_side (λ side. AllByRecursion (λ x. average_of ((made b).sheets t) ≡ Some x.price) (queue (made b) t side)) tt tt;
   given = omega arith;
   cheapest = λ t. omega arith;
   dearest = λ t. omega arith;

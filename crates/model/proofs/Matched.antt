@@ -1,6 +1,6 @@
 -- The laws of matching, from the graph of meeting a queue.
-use Rattle.model.specs.Words.{ℕ, ◌≤◌, ◌≡◌, refl, Bool, true, false, cond, ◌&&◌, ltb, eqb, List, [], ◌∷◌, map, All, Memᴰ, Option, Some, None}
-use Rattle.std.proofs.Common.{ap, ◌∙◌, subst, append-nil, arith}
+use Rattle.model.specs.Words.{ℕ, refl, Bool, true, false, cond, ltb, eqb, List, [], map, AllByRecursion, Memᴰ, Option, Some, None}
+use Rattle.std.proofs.Common.{◌≤◌, ◌≡◌, ◌&&◌, ◌∷◌, ap, ◌∙◌, subst, append-nil, arith}
 use Rattle.std.proofs.lemmas.Bool.Decides.{nat_tests}
 use Rattle.std.proofs.ByRecursion.{All-weaker}
 use Rattle.model.specs.Market.{Side, Buy, Sell, other, Session, Closed, PreTrading, Trading, PostTrading, by_session, Bid, Standing}
@@ -95,7 +95,7 @@ not-crossed Buy None x y e h = e
 not-crossed Sell (Some l) x y e h = grind (arith, nat_tests)
 not-crossed Sell None x y e h = e
 
-pub all_map : {X Y : Type 0} (P : X → Type 0) (Q : Y → Type 0) (f : X → Y) → ((x : X) → P x → Q (f x)) → (xs : List X) → All P xs → All Q (map f xs)
+pub all_map : {X Y : Type 0} (P : X → Type 0) (Q : Y → Type 0) (f : X → Y) → ((x : X) → P x → Q (f x)) → (xs : List X) → AllByRecursion P xs → AllByRecursion Q (map f xs)
 all_map P Q f h [] a = tt
 all_map P Q f h (x ∷ xs) a = (h x a.0, all_map P Q f h xs a.1)
 

@@ -1,7 +1,6 @@
 -- What a newcomer makes of a queue: the graph of `meet`, and the laws of matching as recursions on it.
-use Rattle.model.specs.Words.{ℕ, ◌+◌, ◌-◌, ◌≤◌, ◌<◌, ◌≡◌, refl, Bool, true, false, cond, ◌&&◌, leb, ltb, List, [], ◌∷◌, ◌++◌, map, length, All, Memᴰ}
-use Rattle.std.proofs.Common.{sym, subst, arith}
-use mathlib.Core.List.Memᴰ
+use Rattle.model.specs.Words.{ℕ, refl, Bool, true, false, cond, leb, ltb, List, [], map, length, AllByRecursion, Memᴰ}
+use Rattle.std.proofs.Common.{◌+◌, ◌-◌, ◌≤◌, ◌<◌, ◌≡◌, ◌&&◌, ◌∷◌, ◌++◌, sym, subst, arith}
 use Rattle.std.proofs.lemmas.Bool.Decides.{nat_tests}
 use Rattle.model.specs.Market.{Side, Standing}
 use Rattle.model.specs.Queues.{with_lots}
@@ -58,7 +57,7 @@ module _ {test : ℕ → Bool} {deal : Standing → ℕ → Deal} where
 
   -- each deal is made with a bid of the queue whose price passes the test, for some of its lots
   pub meets-made : (P : Deal → Type 0) {n : ℕ} {q : List Standing} {m : Met} → Meets test deal n q m
-      → ((x : Standing) (k : ℕ) → Memᴰ x q → test x.price ≡ true → P (deal x k)) → All P m.deals
+      → ((x : Standing) (k : ℕ) → Memᴰ x q → test x.price ≡ true → P (deal x k)) → AllByRecursion P m.deals
   meets-made P empty h = tt
   meets-made P (enough e) h = tt
   meets-made P (stopped e) h = tt
@@ -68,7 +67,7 @@ module _ {test : ℕ → Bool} {deal : Standing → ℕ → Deal} where
   -- where lots are left, the front of the queue does not pass the test
   pub meets-done : {n : ℕ} {q : List Standing} {m : Met} → Meets test deal n q m → 0 < m.left → (P : Standing → Type 0)
       → ((x : Standing) → test x.price ≡ false → P x)
-      → ((x : Standing) (xs : List Standing) → Served q (x ∷ xs) → P x → All P xs) → All P m.queue
+      → ((x : Standing) (xs : List Standing) → Served q (x ∷ xs) → P x → AllByRecursion P xs) → AllByRecursion P m.queue
   meets-done empty p P h k = tt
   meets-done (enough e) p P h k = absurd (omega arith)
   meets-done (stopped {x = x} {q = q} e) p P h k = (h x e, k x q none (h x e))

@@ -1,6 +1,6 @@
 -- The numbers that each check can give, and that none is 36.
-use Rattle.model.specs.Words.{ℕ, ◌+◌, ◌≡◌, ◌≢◌, refl, Bool, true, false, cond, eqb, leb, List, [], ◌∷◌, Option, Some, None, any_of, all_of, not}
-use Rattle.std.proofs.Common.{subst, arith}
+use Rattle.model.specs.Words.{ℕ, refl, Bool, true, false, cond, eqb, leb, List, [], Option, Some, None, any_of, all_of, not}
+use Rattle.std.proofs.Common.{◌+◌, ◌≡◌, ◌≢◌, ◌∷◌, subst, arith}
 use Rattle.std.proofs.lemmas.Bool.Decides.{nat_tests}
 use Rattle.std.proofs.lemmas.Bool.{and_parts}
 use Rattle.model.specs.Market.{Call, Start, Deposit, Withdraw, Place, Cancel, Open, EndTrading, EndPostTrading, Cause, Refused, Fault}

@@ -1,7 +1,6 @@
 -- The laws of the opening, from its price and its trades.
-use Rattle.model.specs.Words.{ℕ, ◌≤◌, ◌<◌, ◌≡◌, refl, List, [], ◌∷◌, All, Memᴰ}
-use Rattle.std.proofs.Common.{◌⊎◌, sym, ap, subst, inl, inr, arith}
-use mathlib.Core.List.Memᴰ
+use Rattle.model.specs.Words.{ℕ, refl, List, [], AllByRecursion, Memᴰ}
+use Rattle.std.proofs.Common.{◌≤◌, ◌<◌, ◌≡◌, ◌∷◌, ◌⊎◌, sym, ap, subst, inl, inr, arith}
 use Rattle.std.proofs.lemmas.Bool.Decides.{nat_tests}
 use Rattle.std.proofs.lemmas.Bool.{cases_lt}
 use Rattle.model.specs.Market.{Standing}
@@ -22,19 +21,19 @@ unfolding supply
 supply-at {s} p h (Memᴰ.head {x} e) = let k = ap (λ (z : Standing). z.price) e in let l = ap (λ (z : Standing). z.lots) e in grind (arith, nat_tests)
 supply-at {s} p h (Memᴰ.tail {x} {xs} m) = let ih = supply-at p h m in grind (arith, nat_tests)
 
-all_from : {X : Type 0} (P : X → Type 0) (xs : List X) → ((x : X) → Memᴰ x xs → P x) → All P xs
+all_from : {X : Type 0} (P : X → Type 0) (xs : List X) → ((x : X) → Memᴰ x xs → P x) → AllByRecursion P xs
 all_from P [] h = tt
 all_from P (x ∷ xs) h = (h x (Memᴰ.head refl), all_from P xs (λ y m. h y (Memᴰ.tail m)))
 
-pub all-mem : {X : Type 0} (P : X → Type 0) {x : X} {xs : List X} → All P xs → Memᴰ x xs → P x
+pub all-mem : {X : Type 0} (P : X → Type 0) {x : X} {xs : List X} → AllByRecursion P xs → Memᴰ x xs → P x
 all-mem P a (Memᴰ.head e) = subst P (sym e) a.0
 all-mem P a (Memᴰ.tail m) = all-mem P a.1 m
 
 -- where nothing could trade at any price, each buy is below each sell
-all_apart : (B S : List Standing) → ((p : ℕ) → tradable B S p ≡ 0) → All (λ x. 1 ≤ x.lots) B → All (λ x. 1 ≤ x.lots) S → All (λ b. All (λ s. b.price < s.price) S) B
+all_apart : (B S : List Standing) → ((p : ℕ) → tradable B S p ≡ 0) → AllByRecursion (λ x. 1 ≤ x.lots) B → AllByRecursion (λ x. 1 ≤ x.lots) S → AllByRecursion (λ b. AllByRecursion (λ s. b.price < s.price) S) B
 unfolding tradable
 all_apart B S h lb ls =
-    all_from (λ b. All (λ s. b.price < s.price) S) B
+    all_from (λ b. AllByRecursion (λ s. b.price < s.price) S) B
     (λ b m. all_from (λ s. b.price < s.price) S (λ s n. one b s m n (cases_lt b.price s.price)))
   where
     one : (b s : Standing) → Memᴰ b B → Memᴰ s S → (b.price < s.price) ⊎ (s.price ≤ b.price) → b.price < s.price

@@ -1,6 +1,6 @@
 -- The queues of a sound floor stand in the order of price and then time.
-use Rattle.model.specs.Words.{ℕ, ◌+◌, ◌≤◌, ◌≡◌, ◌≢◌, refl, true, false, List, [], ◌∷◌, All, Option, Some}
-use Rattle.std.proofs.Common.{arith}
+use Rattle.model.specs.Words.{ℕ, refl, true, false, List, [], AllByRecursion, Option, Some}
+use Rattle.std.proofs.Common.{◌+◌, ◌≤◌, ◌≡◌, ◌≢◌, ◌∷◌, arith}
 use Rattle.std.proofs.lemmas.Bool.Decides.{nat_tests}
 use Rattle.model.specs.Market.{Side, Buy, Sell, Session, Closed, PreTrading, Trading, PostTrading, is_post_trading, Standing}
 use Rattle.model.specs.Queues.{before}
@@ -13,7 +13,7 @@ use Rattle.ranking.specs.Ranks.{Pairwise}
 
 -- ---- pairs of a list
 module _ {X : Type 0} where
-  all_both : (P Q R : X → Type 0) → ((x : X) → P x → Q x → R x) → (xs : List X) → All P xs → All Q xs → All R xs
+  all_both : (P Q R : X → Type 0) → ((x : X) → P x → Q x → R x) → (xs : List X) → AllByRecursion P xs → AllByRecursion Q xs → AllByRecursion R xs
   all_both P Q R f [] a b = tt
   all_both P Q R f (x ∷ xs) a b = (f x a.0 b.0, all_both P Q R f xs a.1 b.1)
 
@@ -21,7 +21,7 @@ module _ {X : Type 0} where
   pairs-both P Q R f [] a b = tt
   pairs-both P Q R f (x ∷ xs) a b = (all_both (P x) (Q x) (R x) (f x) xs a.0 b.0, pairs-both P Q R f xs a.1 b.1)
 
-  pairs-from : (P : X → Type 0) (R : X → X → Type 0) → ((x y : X) → P x → P y → R x y) → (xs : List X) → All P xs → Pairwise R xs
+  pairs-from : (P : X → Type 0) (R : X → X → Type 0) → ((x y : X) → P x → P y → R x y) → (xs : List X) → AllByRecursion P xs → Pairwise R xs
   pairs-from P R f [] a = tt
   pairs-from P R f (x ∷ xs) a = (all_both P P (R x) (λ y p q. f x y a.0 q) xs a.1 a.1, pairs-from P R f xs a.1)
 

@@ -1,7 +1,7 @@
 -- What a list of movements does to the book: each is granted, from what is blocked beforehand to what is blocked afterwards, and what a
 -- holder has, free and blocked, changes by the trades alone.
-use Rattle.model.specs.Words.{ℕ, ◌+◌, ◌-◌, ◌*◌, ◌≤◌, ◌<◌, ◌≡◌, refl, List, [], ◌∷◌, ◌++◌, All, map, joined, None, sum_of}
-use Rattle.std.proofs.Common.{sym, ap, ◌∙◌, subst, mul-le-mul_right, arith}
+use Rattle.model.specs.Words.{ℕ, refl, List, [], AllByRecursion, map, joined, None, sum_of}
+use Rattle.std.proofs.Common.{◌+◌, ◌-◌, ◌*◌, ◌≤◌, ◌<◌, ◌≡◌, ◌∷◌, ◌++◌, sym, ap, ◌∙◌, subst, mul-le-mul_right, arith}
 use Rattle.std.proofs.lemmas.Bool.Decides.{nat_tests}
 use Rattle.model.specs.Market.{Side, Standing, Trade, Listing}
 use Rattle.model.specs.Matching.{Deal, trades_of}
@@ -84,7 +84,7 @@ pub made-from : (l : Listing) (ms : List Move) (xs : List Trade) (k k' : Sums) �
 made-from l ms xs k k' t b e = made-with l ms xs b _ _ (λ h a i j. omega arith) (t b (λ h a. 0) (λ h a i j. omega (arith, e h a i j)))
 
 pub takes-each : {X : Type 0} (l : Listing) (ms : X → List Move) (xs : X → List Trade) (k k' : X → Sums) (ts : List X)
-    → All (λ t. Takes l (ms t) (xs t) (k t) (k' t)) ts
+    → AllByRecursion (λ t. Takes l (ms t) (xs t) (k t) (k' t)) ts
     → Takes l (joined ms ts) (joined xs ts) (λ h a. sum_of (λ t. k t h a) ts) (λ h a. sum_of (λ t. k' t h a) ts)
 takes-each l ms xs k k' [] p = takes_none l (λ h a. 0)
 takes-each l ms xs k k' (t ∷ ts) p =
@@ -174,7 +174,7 @@ module _ (l : Listing) (d : Deal) (p : Payable d.trade.ticker d) (goods : d.trad
     );
   }
 
-pub takes-deals : (l : Listing) (t : ℕ) (ds : List Deal) → t < 12 → (quote_of l t).currency < 12 → All (Payable t) ds
+pub takes-deals : (l : Listing) (t : ℕ) (ds : List Deal) → t < 12 → (quote_of l t).currency < 12 → AllByRecursion (Payable t) ds
     → Takes l (settlements l t ds) (trades_of ds) (λ h a. sum_of (λ d. uses (quote_of l t).currency d h a) ds) (λ h a. 0)
 takes-deals l t [] u v p = takes_none l (λ h a. 0)
 takes-deals l t (d ∷ ds) u v p =
@@ -190,7 +190,7 @@ takes-deals l t (d ∷ ds) u v p =
         (subst (λ (z : ℕ). z < 12) (sym e) u) (subst (λ (z : ℕ). (quote_of l z).currency < 12) (sym e) v))
 
 -- ---- standing bids that are taken out
-pub takes-freed : (l : Listing) (t : ℕ) (side : Side) (q : List Standing) → asset_of_lem l t side < 12 → All (λ x. x.holder < 16) q
+pub takes-freed : (l : Listing) (t : ℕ) (side : Side) (q : List Standing) → asset_of_lem l t side < 12 → AllByRecursion (λ x. x.holder < 16) q
     → Takes l (map (freeing l t side) q) [] (owing l t side q) (λ h a. 0)
 takes-freed l t side [] v p = takes_none l (λ h a. 0)
 takes-freed l t side (x ∷ q) v p =

@@ -1,6 +1,6 @@
 -- A bid keeps the invariant, and its movements are granted.
-use Rattle.model.specs.Words.{ℕ, ◌+◌, ◌-◌, ◌*◌, ◌%◌, ◌≤◌, ◌<◌, ◌≡◌, refl, Bool, true, false, leb, eqb, List, [], ◌∷◌, All, length, sum_of, Option, Some, None}
-use Rattle.std.proofs.Common.{sym, ◌∙◌, subst, inl, inr, mul-le-mul_right, arith}
+use Rattle.model.specs.Words.{ℕ, refl, Bool, true, false, leb, eqb, List, [], AllByRecursion, length, sum_of, Option, Some, None}
+use Rattle.std.proofs.Common.{◌+◌, ◌*◌, ◌%◌, ◌≤◌, ◌<◌, ◌≡◌, ◌∷◌, sym, ◌∙◌, subst, inl, inr, mul-le-mul_right, arith}
 use Rattle.std.proofs.lemmas.Bool.Decides.{nat_tests}
 use Rattle.std.proofs.ByRecursion.{All-weaker}
 use Rattle.std.proofs.lemmas.Bool.{true≢false, cond_both, cond-true, cond-false, and_parts, ltb-true, leb-true, leb-false, cases_eq}
@@ -17,7 +17,6 @@ use Rattle.model.proofs.Sums.{by_side}
 use Rattle.model.proofs.Sheets.{passed, must-true, rule-none, OnSheet}
 use Rattle.model.proofs.Quiet.{open_in}
 use Rattle.register.specs.Books.{holder_known_lem}
-use Rattle.register.specs.Moves as move
 use Rattle.ranking.specs.Ranks.{Ranked, insert_ranked}
 use Rattle.rules.specs.Bids.{most_price, most_lots, is_price_lem, is_lots_lem}
 use Rattle.rules.specs.Rules.{Rule, Lawful}
@@ -81,7 +80,7 @@ average-within worth lots p u v e = elim (cases_eq lots 0) [ inl z ↦ absurd (n
         let some : 1 ≤ lots = omega arith in
         subst Priced (same nz) (average-laws.positive worth lots some u, average-laws.most worth lots most_price some v)
 
-pub cost-bounds : (xs : List Trade) → All (λ x. (1 ≤ x.price) × (x.price ≤ most_price)) xs → (lots_of xs ≤ cost_of xs) × (cost_of xs ≤ most_price * lots_of xs)
+pub cost-bounds : (xs : List Trade) → AllByRecursion (λ x. (1 ≤ x.price) × (x.price ≤ most_price)) xs → (lots_of xs ≤ cost_of xs) × (cost_of xs ≤ most_price * lots_of xs)
 cost-bounds [] a = (omega arith, omega arith)
 cost-bounds (x ∷ xs) a =
     let ih = cost-bounds xs a.1 in
@@ -94,9 +93,9 @@ sum-inserted f ahead e [] = refl
 sum-inserted f ahead e (x ∷ xs) =
     cond_both (ahead e x) (e ∷ x ∷ xs) (x ∷ insert_ranked ahead e xs) (λ zs. sum_of f zs ≡ f e + (f x + sum_of f xs)) (λ _. refl) (λ _. omega (arith, sum-inserted f ahead e xs))
 
-pub all-swap : {X Y : Type 0} (R : X → Y → Type 0) (xs : List X) (ys : List Y) → All (λ x. All (R x) ys) xs → All (λ y. All (λ x. R x y) xs) ys
+pub all-swap : {X Y : Type 0} (R : X → Y → Type 0) (xs : List X) (ys : List Y) → AllByRecursion (λ x. AllByRecursion (R x) ys) xs → AllByRecursion (λ y. AllByRecursion (λ x. R x y) xs) ys
 all-swap R xs [] a = tt
-all-swap R xs (y ∷ ys) a = (All-weaker (λ x. All (R x) (y ∷ ys)) (λ x. R x y) (λ x p. p.0) xs a, all-swap R xs ys (All-weaker (λ x. All (R x) (y ∷ ys)) (λ x. All (R x) ys) (λ x p. p.1) xs a))
+all-swap R xs (y ∷ ys) a = (All-weaker (λ x. AllByRecursion (R x) (y ∷ ys)) (λ x. R x y) (λ x p. p.0) xs a, all-swap R xs ys (All-weaker (λ x. AllByRecursion (R x) (y ∷ ys)) (λ x. AllByRecursion (R x) ys) (λ x p. p.1) xs a))
 
 -- ---- a sheet by the newcomer's view
 abbrev pub Below : Side → Standing → Standing → Type 0
@@ -110,15 +109,15 @@ buys_of Sell own others = others
 pub record Parts (step : ℕ) (session : Session) (given t : ℕ) (side : Side) (own others : List Standing) (worth traded : ℕ) : Type 0 where
   pub known : ticker_known t ≡ true
   pub not_closed : is_closed session ≡ false
-  pub fit : All (Fit step given) own
-  pub fits : All (Fit step given) others
+  pub fit : AllByRecursion (Fit step given) own
+  pub fits : AllByRecursion (Fit step given) others
   pub place : length own ≤ queue_places
   pub places : length others ≤ queue_places
   pub ranked : Ranked (before session side) own
   pub rankeds : Ranked (before session (other side)) others
-  pub apart : is_trading session ≡ true → All (λ x. All (Below side x) others) own
-  pub averaged : is_post_trading session ≡ true → All (λ x. average worth traded ≡ Some x.price) own
-  pub averageds : is_post_trading session ≡ true → All (λ x. average worth traded ≡ Some x.price) others
+  pub apart : is_trading session ≡ true → AllByRecursion (λ x. AllByRecursion (Below side x) others) own
+  pub averaged : is_post_trading session ≡ true → AllByRecursion (λ x. average worth traded ≡ Some x.price) own
+  pub averageds : is_post_trading session ≡ true → AllByRecursion (λ x. average worth traded ≡ Some x.price) others
   pub cheapest : traded ≤ worth
   pub dearest : worth ≤ most_price * traded
   pub bought : traded + standing_lots (buys_of side own others) ≤ most_lots * given
@@ -126,32 +125,32 @@ pub record Parts (step : ℕ) (session : Session) (given t : ℕ) (side : Side) 
 pub parts-on : (step : ℕ) (session : Session) (given t : ℕ) (side : Side) (own others : List Standing) (worth traded : ℕ) → Parts step session given t side own others worth traded
     → OnSheet step session given t (sheet_by side own others worth traded)
 parts-on step session given t Buy own others worth traded p = record {
-  fit = by_side (λ side. All (Fit step given) (queue_of (sheet_by Buy own others worth traded) side)) p.fit p.fits;
+  fit = by_side (λ side. AllByRecursion (Fit step given) (queue_of (sheet_by Buy own others worth traded) side)) p.fit p.fits;
   places = by_side (λ side. length (queue_of (sheet_by Buy own others worth traded) side) ≤ queue_places) p.place p.places;
   ranked = by_side (λ side. Ranked (before session side) (queue_of (sheet_by Buy own others worth traded) side)) p.ranked p.rankeds;
   strange = λ side e. absurd (true≢false (sym p.known ∙ e));
   shut = λ e. absurd (true≢false (sym e ∙ p.not_closed));
   uncrossed = p.apart;
-  averaged = λ e. by_side (λ side. All (λ x. average worth traded ≡ Some x.price) (queue_of (sheet_by Buy own others worth traded) side)) (p.averaged e) (p.averageds e);
+  averaged = λ e. by_side (λ side. AllByRecursion (λ x. average worth traded ≡ Some x.price) (queue_of (sheet_by Buy own others worth traded) side)) (p.averaged e) (p.averageds e);
   cheapest = p.cheapest;
   dearest = p.dearest;
   bought = p.bought;
 }
 parts-on step session given t Sell own others worth traded p = record {
-  fit = by_side (λ side. All (Fit step given) (queue_of (sheet_by Sell own others worth traded) side)) p.fits p.fit;
+  fit = by_side (λ side. AllByRecursion (Fit step given) (queue_of (sheet_by Sell own others worth traded) side)) p.fits p.fit;
   places = by_side (λ side. length (queue_of (sheet_by Sell own others worth traded) side) ≤ queue_places) p.places p.place;
   ranked = by_side (λ side. Ranked (before session side) (queue_of (sheet_by Sell own others worth traded) side)) p.rankeds p.ranked;
   strange = λ side e. absurd (true≢false (sym p.known ∙ e));
   shut = λ e. absurd (true≢false (sym e ∙ p.not_closed));
   uncrossed = λ e. all-swap (λ x y. y.price < x.price) own others (p.apart e);
-  averaged = λ e. by_side (λ side. All (λ x. average worth traded ≡ Some x.price) (queue_of (sheet_by Sell own others worth traded) side)) (p.averageds e) (p.averaged e);
+  averaged = λ e. by_side (λ side. AllByRecursion (λ x. average worth traded ≡ Some x.price) (queue_of (sheet_by Sell own others worth traded) side)) (p.averageds e) (p.averaged e);
   cheapest = p.cheapest;
   dearest = p.dearest;
   bought = p.bought;
 }
 
 pub old_apart : (step : ℕ) (session : Session) (given t : ℕ) (s : Sheet) (side : Side) → OnSheet step session given t s → is_trading session ≡ true
-    → All (λ x. All (Below side x) (queue_of s (other side))) (queue_of s side)
+    → AllByRecursion (λ x. AllByRecursion (Below side x) (queue_of s (other side))) (queue_of s side)
 old_apart step session given t s Buy o e = o.uncrossed e
 old_apart step session given t s Sell o e = all-swap (λ x y. x.price < y.price) s.buys s.sells (o.uncrossed e)
 
@@ -165,7 +164,7 @@ by-price PreTrading side e = absurd (true≢false (sym e))
 by-price Trading side e = refl
 by-price PostTrading side e = absurd (true≢false (sym e))
 
-pub fit-more : (step given given' : ℕ) → given ≤ given' → (q : List Standing) → All (Fit step given) q → All (Fit step given') q
+pub fit-more : (step given given' : ℕ) → given ≤ given' → (q : List Standing) → AllByRecursion (Fit step given) q → AllByRecursion (Fit step given') q
 fit-more step given given' le q a =
     All-weaker (Fit step given) (Fit step given')
     (λ x f. record { holder = f.holder; first = f.first; last = omega (arith, f.last); cheapest = f.cheapest; highest = f.highest; fewest = f.fewest; most = f.most; whole = f.whole }) q a
@@ -186,6 +185,6 @@ given-more step session given given' t s le o = record {
 }
 
 -- a number that was never given stands nowhere
-pub unseen : (step given k : ℕ) (q : List Standing) → given < k → All (Fit step given) q → times_in k q ≡ 0
+pub unseen : (step given k : ℕ) (q : List Standing) → given < k → AllByRecursion (Fit step given) q → times_in k q ≡ 0
 unseen step given k [] l a = refl
 unseen step given k (x ∷ q) l a = let f = a.0.last in let ih = unseen step given k q l a.1 in grind (arith, nat_tests)

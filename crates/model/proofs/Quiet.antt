@@ -1,6 +1,6 @@
 -- The calls that make no trades: each keeps the invariant, and its movements are granted.
-use Rattle.model.specs.Words.{ℕ, ◌+◌, ◌≤◌, ◌<◌, ◌≡◌, refl, true, false, cond, eqb, List, [], ◌++◌, length, map, All, None, sum_of}
-use Rattle.std.proofs.Common.{sym, ap, ◌∙◌, subst, arith}
+use Rattle.model.specs.Words.{ℕ, refl, true, false, cond, eqb, List, [], length, map, AllByRecursion, None, sum_of}
+use Rattle.std.proofs.Common.{◌+◌, ◌≤◌, ◌<◌, ◌≡◌, ◌++◌, sym, ap, ◌∙◌, subst, arith}
 use Rattle.std.proofs.lemmas.Bool.{true≢false, eqb-true, and_parts}
 use Rattle.std.proofs.ByRecursion.{All-weaker}
 use Rattle.model.specs.Market.{Side, Buy, Sell, Session, Closed, PreTrading, Trading, PostTrading, Standing, Listing, is_closed, serves, ticker_known, tickers, queue_places}
@@ -15,20 +15,19 @@ use Rattle.model.proofs.Sums.{by_side, all-kept, sum_kept, sum_same}
 use Rattle.model.proofs.Paying.{Made, Takes, made-from, takes-join, takes_beside, takes-each, takes-freed}
 use Rattle.model.proofs.Sheets.{passed, must-true, register-none, asset-known, OnSheet, on-sheet, sound-from, with-sheet, sheets-changed, void-on, cancel-on}
 use Rattle.register.specs.Books.{Book, Sums, holder_known_lem, sum_to}
-use Rattle.register.specs.Moves as move
 use Rattle.register.proofs.Sums.{part-sum_to}
 use Rattle.ranking.specs.Ranks.{Ranked}
 use Rattle.rules.specs.Rules.{Rule}
 
-pub all-tickers : (P : ℕ → Type 0) → ((t : ℕ) → ticker_known t ≡ true → P t) → All P tickers
+pub all-tickers : (P : ℕ → Type 0) → ((t : ℕ) → ticker_known t ≡ true → P t) → AllByRecursion P tickers
 all-tickers P h = (h 4 refl, (h 5 refl, (h 6 refl, (h 7 refl, (h 8 refl, (h 9 refl, (h 10 refl, (h 11 refl, tt))))))))
 
-pub holders : (step given : ℕ) (q : List Standing) → All (Fit step given) q → All (λ x. x.holder < 16) q
+pub holders : (step given : ℕ) (q : List Standing) → AllByRecursion (Fit step given) q → AllByRecursion (λ x. x.holder < 16) q
 holders step given q a = All-weaker (Fit step given) (λ x. x.holder < 16) (λ x f. f.holder) q a
 
 -- the bids of two queues of a ticker are taken out
 pub takes-sheet : (l : Listing) (t : ℕ) (buys sells : List Standing) → valid_listing l ≡ true → ticker_known t ≡ true
-    → All (λ x. x.holder < 16) buys → All (λ x. x.holder < 16) sells
+    → AllByRecursion (λ x. x.holder < 16) buys → AllByRecursion (λ x. x.holder < 16) sells
     → Takes l (map (freeing l t Buy) buys ++ map (freeing l t Sell) sells) [] (λ h a. owing l t Buy buys h a + owing l t Sell sells h a) (λ h a. 0)
 takes-sheet l t buys sells v k p q =
     takes-join l (map (freeing l t Buy) buys) (map (freeing l t Sell) sells) [] [] _ (owing l t Sell sells) _
@@ -77,7 +76,7 @@ new-on : (step : ℕ) (t : ℕ) (s : Sheet) → ((side : Side) → queue_of s si
 new-on step t s e =
     let es : (side : Side) → queue_of (new_day s) side ≡ [] = by_side (λ side. queue_of (new_day s) side ≡ []) (e Buy) (e Sell) in
     record {
-      fit = λ side. subst (All (Fit step 0)) (sym (es side)) tt;
+      fit = λ side. subst (AllByRecursion (Fit step 0)) (sym (es side)) tt;
       places = λ side. subst (λ (q : List Standing). length q ≤ queue_places) (sym (es side)) (omega arith);
       ranked = λ side. subst (Ranked (before PreTrading side)) (sym (es side)) tt;
       strange = λ side k. es side;

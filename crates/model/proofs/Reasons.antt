@@ -1,7 +1,6 @@
 -- A refusal names a reason that holds, and where a reason holds the call is refused.
-use Rattle.model.specs.Words.{ℕ, zero, suc, ◌≤◌, ◌<◌, ◌≡◌, ◌≢◌, refl, Bool, true, false, cond, not, ◌&&◌, ◌||◌, leb, ltb, eqb, List, [], ◌∷◌, ◌++◌, length, All, Memᴰ, Option, Some, None, all_of, any_of, is_some}
-use Rattle.std.proofs.Common.{◌⊎◌, sym, ap, ◌∙◌, subst, inl, inr, arith}
-use mathlib.Core.List.Memᴰ
+use Rattle.model.specs.Words.{ℕ, zero, suc, refl, Bool, true, false, cond, not, leb, ltb, eqb, List, [], length, AllByRecursion, Memᴰ, Option, Some, None, all_of, any_of, is_some}
+use Rattle.std.proofs.Common.{◌≤◌, ◌<◌, ◌≡◌, ◌≢◌, ◌&&◌, ◌||◌, ◌∷◌, ◌++◌, ◌⊎◌, sym, ap, ◌∙◌, subst, inl, inr, arith}
 use Rattle.std.proofs.lemmas.Bool.{true≢false, cases_Bool, and_from, and_parts, and_cases, or_parts, or_from, cond-false, not-false, not_from_true, ltb-true, ltb-false, leb-true, leb-false, eqb-true, eqb-false, lt-ltb, le-ltb, le-leb, lt-leb, eq-eqb, ne_eqb}
 use Rattle.model.specs.Market.{BadListing, SomethingBlocked, WrongSession, ShortStrip, NoHolderOrTicker, BeyondLimits, FormNotTaken, NoAverage, NumbersSpent, QueueFull, NoSuchBid}
 use Rattle.model.specs.Market.{Session, is_closed, is_pre_trading, is_trading, is_post_trading, serves, Buy, Sell, Bid, Standing, Quote, Listing, RuleRefusal, RegisterFault, FloorRefusal, Cause, ByFloor, ByRule, ByRegister, Refused, Fault, ticker_known, most_numbers, queue_places}
@@ -15,8 +14,8 @@ use Rattle.model.specs.Checks.{Check, must, by_rule, by_register, first_failing,
 use Rattle.model.specs.Calls.{answer, accepted, decided, fault_of_lem}
 use Rattle.model.specs.Tally.{is_refused}
 use Rattle.model.specs.RefusalLaws.{Because, RefusalsAreTrue}
-use Rattle.model.specs.RefusalLaws.Because.{not_closed, no-currency, no-settlement, blocked, not-deposited, not-withdrawn, wrong-pass, short-strip, unknown, bad-price, bad-lots, bad-form}
-use Rattle.model.specs.RefusalLaws.Because.{no_average, all-given, not-admitted, no_place, not-blocked, not-that-pass, unknown-there, not-standing, not-pre-trading, shorter-strip, not-trading, not-post-trading}
+use Rattle.model.specs.RefusalLaws.Because.{not_closed, no_currency, no_settlement, blocked, not_deposited, not_withdrawn, wrong_pass, short_strip, unknown, bad_price, bad_lots, bad_form}
+use Rattle.model.specs.RefusalLaws.Because.{no_average, all_given, not_admitted, no_place, not_blocked, not_that_pass, unknown_there, not_standing, not_pre_trading, shorter_strip, not_trading, not_post_trading}
 use Rattle.model.proofs.Checked.{accepted-is-no-refusal}
 use Rattle.model.proofs.Sheets.{passed, must-true, rule-none, register-none}
 use Rattle.model.proofs.Quiet.{nothing}
@@ -99,13 +98,13 @@ part (suc n) f ne = by (cases_Bool (eqb (f n) 0)) (part n f)
     by (inr e) ih = record { place = n; below = omega arith; some = eqb-false (f n) 0 e }
 
 -- ---- the bid that a cancellation names
-unnamed : (h k : ℕ) (q : List Standing) → any_of (named h k) q ≡ false → All (λ x. x.holder ≡ h → x.number ≡ k → ⊥) q
+unnamed : (h k : ℕ) (q : List Standing) → any_of (named h k) q ≡ false → AllByRecursion (λ x. x.holder ≡ h → x.number ≡ k → ⊥) q
 unnamed h k [] e = tt
 unnamed h k (x ∷ q) e =
     let p = or_parts (named h k x) (any_of (named h k) q) e in
     ((λ a b. true≢false (sym (and_from (eqb x.holder h) (eqb x.number k) (eq-eqb x.holder h a) (eq-eqb x.number k b)) ∙ p.0)), unnamed h k q p.1)
 
-none_named : (h k : ℕ) (q : List Standing) → All (λ x. x.holder ≡ h → x.number ≡ k → ⊥) q → any_of (named h k) q ≡ true → ⊥
+none_named : (h k : ℕ) (q : List Standing) → AllByRecursion (λ x. x.holder ≡ h → x.number ≡ k → ⊥) q → any_of (named h k) q ≡ true → ⊥
 none_named h k [] a e = true≢false (sym e)
 none_named h k (x ∷ q) a e = by (named h k x) refl e (none_named h k q a.1)
   where
@@ -134,7 +133,7 @@ module _ (P : Cause → Type 0) where
   unless-says true c p x h = absurd (grind arith)
   unless-says false c p x h = p refl x h
 
-  first_says : (cs : List Check) → All Says cs → (x : Cause) → first_failing cs ≡ Some x → P x
+  first_says : (cs : List Check) → AllByRecursion Says cs → (x : Cause) → first_failing cs ≡ Some x → P x
   first_says [] a x h = absurd (grind arith)
   first_says (None ∷ cs) a x h = first_says cs a.1 x h
   first_says (Some y ∷ cs) a x h = a.0 x h
@@ -144,8 +143,8 @@ module _ (r : Rule) (w : World) where
   bad-listing l e = let b = bad-line l.quotes e in by b.line b.listed b.why_so
     where
       by : (q : Quote) → Memᴰ q l.quotes → (3 < q.currency) ⊎ (most_price < q.settlement) → Because r w (Start l) (ByFloor BadListing)
-      by q m (inl c) = no-currency q m c
-      by q m (inr c) = no-settlement q m c
+      by q m (inl c) = no_currency q m c
+      by q m (inr c) = no_settlement q m c
 
   some-blocked : (l : Listing) → nothing_blocked w.book ≡ false → Because r w (Start l) (ByFloor SomethingBlocked)
   some-blocked l e =
@@ -159,12 +158,12 @@ module _ (r : Rule) (w : World) where
     beyond-limits e = by (and_cases _ (is_lots_lem b.lots) e)
       where
         price : (o : Option ℕ) → b.price ≡ o → ◌≡◌ {A = Bool} (elim o [ Some p ↦ is_price_lem p | None ↦ true ]) false → Because r w (Place shown b room) (ByFloor BeyondLimits)
-        price (Some p) q h = bad-price p q (beyond p most_price h)
+        price (Some p) q h = bad_price p q (beyond p most_price h)
         price None q h = absurd (true≢false h)
 
         by : (◌≡◌ {A = Bool} (elim b.price [ Some p ↦ is_price_lem p | None ↦ true ]) false) ⊎ (is_lots_lem b.lots ≡ false) → Because r w (Place shown b room) (ByFloor BeyondLimits)
         by (inl h) = price b.price refl h
-        by (inr h) = bad-lots (beyond b.lots most_lots h)
+        by (inr h) = bad_lots (beyond b.lots most_lots h)
 
     without-average : has_average_lem w b ≡ false → Because r w (Place shown b room) (ByFloor NoAverage)
     without-average e =
@@ -177,35 +176,35 @@ module _ (r : Rule) (w : World) where
         let p = or_parts (eqb (rest w b) 0) (ltb (length q) queue_places) e in
         no_place (positive (rest w b) p.0) (ltb-false (length q) queue_places p.1)
 
-  reasons : (c : Call) → All (Says (Because r w c)) (checks r w c)
+  reasons : (c : Call) → AllByRecursion (Says (Because r w c)) (checks r w c)
   reasons (Start l) =
       let P = Because r w (Start l) in (
         floor-says P (is_closed w.session) WrongSession not_closed,
         (floor-says P (valid_listing l) BadListing (bad-listing l), (floor-says P (nothing_blocked w.book) SomethingBlocked (some-blocked l), tt)),
       )
-  reasons (Deposit h a n) = (register-says (Because r w (Deposit h a n)) (refusal w.book (move.Deposit h a n)) (λ f e. not-deposited e), tt)
-  reasons (Withdraw h a n) = (register-says (Because r w (Withdraw h a n)) (refusal w.book (move.Withdraw h a n)) (λ f e. not-withdrawn e), tt)
+  reasons (Deposit h a n) = (register-says (Because r w (Deposit h a n)) (refusal w.book (move.Deposit h a n)) (λ f e. not_deposited e), tt)
+  reasons (Withdraw h a n) = (register-says (Because r w (Withdraw h a n)) (refusal w.book (move.Withdraw h a n)) (λ f e. not_withdrawn e), tt)
   reasons (Place shown b room) =
       let P = Because r w (Place shown b room) in
       let block = refusal w.book (move.Block b.holder (asset_of_lem w.listing b.ticker b.side) (owed w b)) in (
-        floor-says P (serves shown w.session) WrongSession wrong-pass,
+        floor-says P (serves shown w.session) WrongSession wrong_pass,
         (
-          floor-says P (leb 64 room) ShortStrip (λ e. short-strip (leb-false 64 room e)),
+          floor-says P (leb 64 room) ShortStrip (λ e. short_strip (leb-false 64 room e)),
           (
             floor-says P (holder_known_lem b.holder && ticker_known b.ticker) NoHolderOrTicker (λ e. unknown (known-not b.holder b.ticker e)),
             (
               floor-says P (within_limits b) BeyondLimits (beyond-limits shown b room),
               (
-                floor-says P (form_taken w.session b) FormNotTaken bad-form,
+                floor-says P (form_taken w.session b) FormNotTaken bad_form,
                 (
                   floor-says P (has_average_lem w b) NoAverage (without-average shown b room),
                   (
-                    floor-says P (ltb w.given most_numbers) NumbersSpent (λ e. all-given (ltb-false w.given most_numbers e)),
+                    floor-says P (ltb w.given most_numbers) NumbersSpent (λ e. all_given (ltb-false w.given most_numbers e)),
                     (
-                      rule-says P (r.on_bid (question w b)) (λ e h. not-admitted h),
+                      rule-says P (r.on_bid (question w b)) (λ e h. not_admitted h),
                       (
                         floor-says P (has_place_lem w b) QueueFull (without-place shown b room),
-                        (unless-says P (eqb (owed w b) 0) (by_register block) (λ e. register-says P block (λ f h. not-blocked (positive (owed w b) e) h)), tt),
+                        (unless-says P (eqb (owed w b) 0) (by_register block) (λ e. register-says P block (λ f h. not_blocked (positive (owed w b) e) h)), tt),
                       ),
                     ),
                   ),
@@ -217,17 +216,17 @@ module _ (r : Rule) (w : World) where
       )
   reasons (Cancel shown h t k) =
       let P = Because r w (Cancel shown h t k) in (
-        floor-says P (serves shown w.session) WrongSession not-that-pass,
+        floor-says P (serves shown w.session) WrongSession not_that_pass,
         (
-          floor-says P (holder_known_lem h && ticker_known t) NoHolderOrTicker (λ e. unknown-there (known-not h t e)),
-          (floor-says P (is_standing w h t k) NoSuchBid (λ e. not-standing (unnamed h k (queue w t Buy ++ queue w t Sell) e)), tt),
+          floor-says P (holder_known_lem h && ticker_known t) NoHolderOrTicker (λ e. unknown_there (known-not h t e)),
+          (floor-says P (is_standing w h t k) NoSuchBid (λ e. not_standing (unnamed h k (queue w t Buy ++ queue w t Sell) e)), tt),
         ),
       )
   reasons (Open room) =
       let P = Because r w (Open room) in
-      (floor-says P (is_pre_trading w.session) WrongSession not-pre-trading, (floor-says P (leb 1024 room) ShortStrip (λ e. shorter-strip (leb-false 1024 room e)), tt))
-  reasons EndTrading = (floor-says (Because r w EndTrading) (is_trading w.session) WrongSession not-trading, tt)
-  reasons EndPostTrading = (floor-says (Because r w EndPostTrading) (is_post_trading w.session) WrongSession not-post-trading, tt)
+      (floor-says P (is_pre_trading w.session) WrongSession not_pre_trading, (floor-says P (leb 1024 room) ShortStrip (λ e. shorter_strip (leb-false 1024 room e)), tt))
+  reasons EndTrading = (floor-says (Because r w EndTrading) (is_trading w.session) WrongSession not_trading, tt)
+  reasons EndPostTrading = (floor-says (Because r w EndPostTrading) (is_post_trading w.session) WrongSession not_post_trading, tt)
 
   so : (c : Call) (f : Fault) → answer r w c ≡ Refused f → Because r w c f.cause
   unfolding answer
@@ -238,7 +237,7 @@ module _ (r : Rule) (w : World) where
       by (Some x) p e = let z : x ≡ f.cause = cc in subst (Because r w c) z (first_says (Because r w c) (checks r w c) (reasons c) x p)
 
   -- ---- the other way
-  fails : (c : Call) → (All (λ x. x ≡ None) (checks r w c) → ⊥) → is_refused (answer r w c) ≡ true
+  fails : (c : Call) → (AllByRecursion (λ x. x ≡ None) (checks r w c) → ⊥) → is_refused (answer r w c) ≡ true
   unfolding answer
   fails c ne = by (why r w c) refl
     where
@@ -258,35 +257,35 @@ module _ (r : Rule) (w : World) where
 
   refused : {c : Call} {e : Cause} → Because r w c e → is_refused (answer r w c) ≡ true
   refused (not_closed {l} e) = fails (Start l) (λ a. clash (must-true _ _ a.0) e)
-  refused (no-currency {l} q m h) = fails (Start l) (λ a. let v = all_valid m (must-true _ _ a.1.0) in let k = v.0 in omega arith)
-  refused (no-settlement {l} q m h) = fails (Start l) (λ a. let v = all_valid m (must-true _ _ a.1.0) in let k = v.1 in omega arith)
+  refused (no_currency {l} q m h) = fails (Start l) (λ a. let v = all_valid m (must-true _ _ a.1.0) in let k = v.0 in omega arith)
+  refused (no_settlement {l} q m h) = fails (Start l) (λ a. let v = all_valid m (must-true _ _ a.1.0) in let k = v.1 in omega arith)
   refused (blocked {l} h a i j n) = fails (Start l) (λ c. let z = nothing w.book (must-true _ _ c.1.1.0) h a i j in omega arith)
-  refused (not-deposited {h} {a} {n} {f} e) = fails (Deposit h a n) (λ c. let z : None ≡ Some f = sym (register-none _ c.0) ∙ e in absurd (grind arith))
-  refused (not-withdrawn {h} {a} {n} {f} e) = fails (Withdraw h a n) (λ c. let z : None ≡ Some f = sym (register-none _ c.0) ∙ e in absurd (grind arith))
-  refused (wrong-pass {shown} {b} {room} e) = fails (Place shown b room) (λ a. clash (must-true _ _ a.0) e)
-  refused (short-strip {shown} {b} {room} l) = fails (Place shown b room) (λ a. clash (must-true _ _ a.1.0) (lt-leb 64 room l))
+  refused (not_deposited {h} {a} {n} {f} e) = fails (Deposit h a n) (λ c. let z : None ≡ Some f = sym (register-none _ c.0) ∙ e in absurd (grind arith))
+  refused (not_withdrawn {h} {a} {n} {f} e) = fails (Withdraw h a n) (λ c. let z : None ≡ Some f = sym (register-none _ c.0) ∙ e in absurd (grind arith))
+  refused (wrong_pass {shown} {b} {room} e) = fails (Place shown b room) (λ a. clash (must-true _ _ a.0) e)
+  refused (short_strip {shown} {b} {room} l) = fails (Place shown b room) (λ a. clash (must-true _ _ a.1.0) (lt-leb 64 room l))
   refused (unknown {shown} {b} {room} ne) = fails (Place shown b room) (λ a. let k = is_known b.holder b.ticker (must-true _ _ a.1.1.0) in ne k.0 k.1 k.2)
-  refused (bad-price {shown} {b} {room} p q ne) = fails (Place shown b room) (λ a. let k = price-fits b p q (must-true _ _ a.1.1.1.0) in ne k.0 k.1)
-  refused (bad-lots {shown} {b} {room} ne) =
+  refused (bad_price {shown} {b} {room} p q ne) = fails (Place shown b room) (λ a. let k = price-fits b p q (must-true _ _ a.1.1.1.0) in ne k.0 k.1)
+  refused (bad_lots {shown} {b} {room} ne) =
       fails (Place shown b room) (λ a. let k = within b.lots most_lots (and_parts _ (is_lots_lem b.lots) (must-true _ _ a.1.1.1.0)).1 in ne k.0 k.1)
-  refused (bad-form {shown} {b} {room} e) = fails (Place shown b room) (λ a. clash (must-true _ _ a.1.1.1.1.0) e)
+  refused (bad_form {shown} {b} {room} e) = fails (Place shown b room) (λ a. clash (must-true _ _ a.1.1.1.1.0) e)
   refused (no_average {shown} {b} {room} p z) =
       fails (Place shown b room) (λ a. clash (must-true _ _ a.1.1.1.1.1.0) (or_from _ _ (not_from_true _ p) (traded-none (w.sheets b.ticker) z)))
-  refused (all-given {shown} {b} {room} l) = fails (Place shown b room) (λ a. clash (must-true _ _ a.1.1.1.1.1.1.0) (le-ltb w.given most_numbers l))
-  refused (not-admitted {shown} {b} {room} {e} h) = fails (Place shown b room) (λ a. let z : None ≡ Some e = sym (rule-none _ a.1.1.1.1.1.1.1.0) ∙ h in absurd (grind arith))
+  refused (all_given {shown} {b} {room} l) = fails (Place shown b room) (λ a. clash (must-true _ _ a.1.1.1.1.1.1.0) (le-ltb w.given most_numbers l))
+  refused (not_admitted {shown} {b} {room} {e} h) = fails (Place shown b room) (λ a. let z : None ≡ Some e = sym (rule-none _ a.1.1.1.1.1.1.1.0) ∙ h in absurd (grind arith))
   refused (no_place {shown} {b} {room} p l) =
       fails (Place shown b room) (λ a. clash (must-true _ _ a.1.1.1.1.1.1.1.1.0) (or_from _ _ (ne_eqb (rest w b) 0 (λ z. absurd (omega arith))) (le-ltb _ queue_places l)))
-  refused (not-blocked {shown} {b} {room} {f} p h) =
+  refused (not_blocked {shown} {b} {room} {f} p h) =
       fails (Place shown b room) (λ a.
       let z : None ≡ Some f = sym (register-none _ (sym (cond-false (eqb (owed w b) 0) None _ (ne_eqb (owed w b) 0 (λ y. absurd (omega arith)))) ∙ a.1.1.1.1.1.1.1.1.1.0)) ∙ h in
       absurd (grind arith))
-  refused (not-that-pass {shown} {h} {t} {k} e) = fails (Cancel shown h t k) (λ a. clash (must-true _ _ a.0) e)
-  refused (unknown-there {shown} {h} {t} {k} ne) = fails (Cancel shown h t k) (λ a. let p = is_known h t (must-true _ _ a.1.0) in ne p.0 p.1 p.2)
-  refused (not-standing {shown} {h} {t} {k} n) = fails (Cancel shown h t k) (λ a. none_named h k (queue w t Buy ++ queue w t Sell) n (must-true _ _ a.1.1.0))
-  refused (not-pre-trading {room} e) = fails (Open room) (λ a. clash (must-true _ _ a.0) e)
-  refused (shorter-strip {room} l) = fails (Open room) (λ a. clash (must-true _ _ a.1.0) (lt-leb 1024 room l))
-  refused (not-trading e) = fails EndTrading (λ a. clash (must-true _ _ a.0) e)
-  refused (not-post-trading e) = fails EndPostTrading (λ a. clash (must-true _ _ a.0) e)
+  refused (not_that_pass {shown} {h} {t} {k} e) = fails (Cancel shown h t k) (λ a. clash (must-true _ _ a.0) e)
+  refused (unknown_there {shown} {h} {t} {k} ne) = fails (Cancel shown h t k) (λ a. let p = is_known h t (must-true _ _ a.1.0) in ne p.0 p.1 p.2)
+  refused (not_standing {shown} {h} {t} {k} n) = fails (Cancel shown h t k) (λ a. none_named h k (queue w t Buy ++ queue w t Sell) n (must-true _ _ a.1.1.0))
+  refused (not_pre_trading {room} e) = fails (Open room) (λ a. clash (must-true _ _ a.0) e)
+  refused (shorter_strip {room} l) = fails (Open room) (λ a. clash (must-true _ _ a.1.0) (lt-leb 1024 room l))
+  refused (not_trading e) = fails EndTrading (λ a. clash (must-true _ _ a.0) e)
+  refused (not_post_trading e) = fails EndPostTrading (λ a. clash (must-true _ _ a.0) e)
 
 pub refusals-are-true : RefusalsAreTrue
 refusals-are-true = record { so = so; refused = λ r w c e. refused r w }

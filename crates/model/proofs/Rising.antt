@@ -1,6 +1,6 @@
 -- The opening's trades follow in rising order of the tickers.
-use Rattle.model.specs.Words.{ℕ, ◌≤◌, ◌≡◌, refl, Bool, true, false, cond, leb, ltb, List, [], ◌∷◌, ◌++◌, All, joined, only, Option, Some, None}
-use Rattle.std.proofs.Common.{arith}
+use Rattle.model.specs.Words.{ℕ, refl, Bool, true, false, cond, leb, ltb, List, [], AllByRecursion, joined, only, Option, Some, None}
+use Rattle.std.proofs.Common.{◌≤◌, ◌≡◌, ◌∷◌, ◌++◌, arith}
 use Rattle.std.proofs.ByRecursion.{All-weaker, All-append}
 use Rattle.model.specs.Market.{Buy, Sell, Standing, Trade, tickers}
 use Rattle.model.specs.Queues.{with_lots}
@@ -14,26 +14,26 @@ use Rattle.model.proofs.Matched.{all_map}
 use Rattle.ranking.specs.Ranks.{Pairwise}
 
 -- ---- all trades of a ticker's opening are of this ticker
-uncross-ticker : (t o : ℕ) (buys sells : List Standing) → All (λ d. d.trade.ticker ≡ t) (uncross t o buys sells).deals
+uncross-ticker : (t o : ℕ) (buys sells : List Standing) → AllByRecursion (λ d. d.trade.ticker ≡ t) (uncross t o buys sells).deals
 unfolding uncross
 uncross-ticker t o [] sells = tt
 uncross-ticker t o (b ∷ buys) sells = step (leb o b.price) (uncross-ticker t o buys (meet (λ p. leb p o) (auctioned t o b) b.lots sells).queue)
   where
     step : (u : Bool) → let m = meet (λ p. leb p o) (auctioned t o b) b.lots sells in
         let r = uncross t o buys m.queue in
-        All (λ d. d.trade.ticker ≡ t) r.deals
-        → All (λ d. d.trade.ticker ≡ t)
+        AllByRecursion (λ d. d.trade.ticker ≡ t) r.deals
+        → AllByRecursion (λ d. d.trade.ticker ≡ t)
         (cond u (record { deals = m.deals ++ r.deals; buys = only (ltb 0 m.left) (with_lots b m.left) ++ r.buys; sells = r.sells }) (unopened (b ∷ buys) sells)).deals
     step true ih =
         All-append (λ d. d.trade.ticker ≡ t) _ _ (meets-made (λ d. d.trade.ticker ≡ t) (meet-graph (λ p. leb p o) (auctioned t o b) b.lots sells) (λ x k m e. refl)) ih
     step false ih = tt
 
-opened-ticker : (w : World) (t : ℕ) → All (λ x. x.ticker ≡ t) (trades_of (opened_at w t).deals)
+opened-ticker : (w : World) (t : ℕ) → AllByRecursion (λ x. x.ticker ≡ t) (trades_of (opened_at w t).deals)
 unfolding opening
 opened-ticker w t =
     all_map (λ d. d.trade.ticker ≡ t) (λ x. x.ticker ≡ t) (λ d. d.trade) (λ d h. h) (opened_at w t).deals (step (opening_price_lem (queue w t Buy) (queue w t Sell)))
   where
-    step : (o : Option ℕ) → All (λ d. d.trade.ticker ≡ t) (opening_at t o (queue w t Buy) (queue w t Sell)).deals
+    step : (o : Option ℕ) → AllByRecursion (λ d. d.trade.ticker ≡ t) (opening_at t o (queue w t Buy) (queue w t Sell)).deals
     step None = tt
     step (Some o) = uncross-ticker t o (queue w t Buy) (queue w t Sell)
 
@@ -41,7 +41,7 @@ opened-ticker w t =
 Rises : List Trade → Type 0
 Rises = Pairwise (λ x y. x.ticker ≤ y.ticker)
 
-before-all : (t : ℕ) (xs ys : List Trade) → All (λ x. x.ticker ≡ t) xs → All (λ y. t ≤ y.ticker) ys → Rises ys → Rises (xs ++ ys)
+before-all : (t : ℕ) (xs ys : List Trade) → AllByRecursion (λ x. x.ticker ≡ t) xs → AllByRecursion (λ y. t ≤ y.ticker) ys → Rises ys → Rises (xs ++ ys)
 unfolding Rises
 before-all t [] ys a b r = r
 before-all t (x ∷ xs) ys a b r =
@@ -51,8 +51,8 @@ before-all t (x ∷ xs) ys a b r =
       before-all t xs ys a.1 b r,
     )
 
-module _ (f : ℕ → List Trade) (own : (t : ℕ) → All (λ x. x.ticker ≡ t) (f t)) where
-  all-later : (t : ℕ) (ts : List ℕ) → All (λ u. t ≤ u) ts → All (λ y. t ≤ y.ticker) (joined f ts)
+module _ (f : ℕ → List Trade) (own : (t : ℕ) → AllByRecursion (λ x. x.ticker ≡ t) (f t)) where
+  all-later : (t : ℕ) (ts : List ℕ) → AllByRecursion (λ u. t ≤ u) ts → AllByRecursion (λ y. t ≤ y.ticker) (joined f ts)
   all-later t [] a = tt
   all-later t (u ∷ ts) a =
       let l = a.0 in

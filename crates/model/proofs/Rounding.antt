@@ -1,6 +1,6 @@
 -- The laws of the average. This file alone opens how it is rounded.
-use Rattle.model.specs.Words.{ℕ, ◌+◌, ◌*◌, ◌/◌, ◌≤◌, ◌<◌, ◌≡◌, ◌≢◌, eqb, List, [], ◌∷◌, All, Some, None}
-use Rattle.std.proofs.Common.{◌⊎◌, sym, inl, inr, mul-le-mul_right, mod-lt, le_of_mul-le-mul_right, arith}
+use Rattle.model.specs.Words.{ℕ, eqb, List, [], AllByRecursion, Some, None}
+use Rattle.std.proofs.Common.{◌+◌, ◌*◌, ◌/◌, ◌≤◌, ◌<◌, ◌≡◌, ◌≢◌, ◌∷◌, ◌⊎◌, sym, inl, inr, mul-le-mul_right, mod-lt, le_of_mul-le-mul_right, arith}
 use native.Mathlib.Nat.{mod-add-div}
 use Rattle.std.proofs.lemmas.Bool.{cases_lt, cond-false, ne_eqb}
 use Rattle.model.specs.Market.{Trade}
@@ -35,11 +35,11 @@ least worth lots low h l = step (cases_lt (average_price_lem worth lots) low)
 most : (worth lots high : ℕ) → 1 ≤ lots → worth ≤ high * lots → average_price_lem worth lots ≤ high
 most worth lots high h l = let b = below worth lots h in le_of_mul-le-mul_right {k = lots} (omega arith) h
 
-cost-least : (xs : List Trade) (low : ℕ) → All (λ x. low ≤ x.price) xs → low * lots_of xs ≤ cost_of xs
+cost-least : (xs : List Trade) (low : ℕ) → AllByRecursion (λ x. low ≤ x.price) xs → low * lots_of xs ≤ cost_of xs
 cost-least [] low a = omega arith
 cost-least (x ∷ xs) low a = let ih = cost-least xs low a.1 in let h = mul-le-mul_right x.lots a.0 in omega arith
 
-pub cost-most : (xs : List Trade) (high : ℕ) → All (λ x. x.price ≤ high) xs → cost_of xs ≤ high * lots_of xs
+pub cost-most : (xs : List Trade) (high : ℕ) → AllByRecursion (λ x. x.price ≤ high) xs → cost_of xs ≤ high * lots_of xs
 cost-most [] high a = omega arith
 cost-most (x ∷ xs) high a = let ih = cost-most xs high a.1 in let h = mul-le-mul_right x.lots a.0 in omega arith
 

@@ -1,6 +1,6 @@
 -- The invariant sheet by sheet.
-use Rattle.model.specs.Words.{ℕ, zero, suc, ◌-◌, ◌+◌, ◌*◌, ◌≤◌, ◌<◌, ◌≡◌, ◌≢◌, refl, Bool, true, false, cond, not, ◌&&◌, eqb, leb, List, [], ◌∷◌, length, get_or, All, Option, Some, None, all_of, sum_of}
-use Rattle.std.proofs.Common.{sym, ap, ◌∙◌, subst, arith}
+use Rattle.model.specs.Words.{ℕ, zero, suc, refl, Bool, true, false, cond, not, eqb, leb, List, [], length, get_or, AllByRecursion, Option, Some, None, all_of, sum_of}
+use Rattle.std.proofs.Common.{◌-◌, ◌+◌, ◌*◌, ◌≤◌, ◌<◌, ◌≡◌, ◌≢◌, ◌&&◌, ◌∷◌, sym, ap, ◌∙◌, subst, arith}
 use Rattle.std.proofs.lemmas.Bool.Decides.{nat_tests}
 use Rattle.std.proofs.lemmas.Bool.{cond_both, eqb-true, and_parts, leb-true}
 use Rattle.std.proofs.ByRecursion.{All-weaker}
@@ -16,7 +16,7 @@ use Rattle.ranking.specs.Ranks.{Ranked}
 use Rattle.rules.specs.Bids.{most_price, most_lots}
 
 -- ---- the checks of an accepted call
-pub passed : (cs : List Check) → first_failing cs ≡ None → All (λ x. x ≡ None) cs
+pub passed : (cs : List Check) → first_failing cs ≡ None → AllByRecursion (λ x. x ≡ None) cs
 passed [] e = tt
 passed (None ∷ cs) e = (refl, passed cs e)
 passed (Some x ∷ cs) e = absurd (grind arith)
@@ -55,13 +55,13 @@ currency-apart l t e k q = let h = currencies l.quotes (t - 4) e in absurd (grin
 
 -- ---- what the invariant says of one sheet
 pub record OnSheet (step : ℕ) (session : Session) (given t : ℕ) (s : Sheet) : Type 0 where
-  pub fit : (side : Side) → All (Fit step given) (queue_of s side)
+  pub fit : (side : Side) → AllByRecursion (Fit step given) (queue_of s side)
   pub places : (side : Side) → length (queue_of s side) ≤ queue_places
   pub ranked : (side : Side) → Ranked (before session side) (queue_of s side)
   pub strange : (side : Side) → ticker_known t ≡ false → queue_of s side ≡ []
   pub shut : is_closed session ≡ true → (side : Side) → queue_of s side ≡ []
-  pub uncrossed : is_trading session ≡ true → All (λ b. All (λ x. b.price < x.price) s.sells) s.buys
-  pub averaged : is_post_trading session ≡ true → (side : Side) → All (λ x. average_of s ≡ Some x.price) (queue_of s side)
+  pub uncrossed : is_trading session ≡ true → AllByRecursion (λ b. AllByRecursion (λ x. b.price < x.price) s.sells) s.buys
+  pub averaged : is_post_trading session ≡ true → (side : Side) → AllByRecursion (λ x. average_of s ≡ Some x.price) (queue_of s side)
   pub cheapest : s.traded ≤ s.worth
   pub dearest : s.worth ≤ most_price * s.traded
   pub bought : s.traded + standing_lots s.buys ≤ most_lots * given
@@ -125,13 +125,13 @@ sheets-changed f sheets t s k =
 -- ---- an empty sheet, in any session
 pub void-on : (step : ℕ) (session session' : Session) (given t : ℕ) (s : Sheet) → OnSheet step session given t s → OnSheet step session' given t (void_sheet s)
 void-on step session session' given t s o = record {
-  fit = by_side (λ side. All (Fit step given) (queue_of (void_sheet s) side)) tt tt;
+  fit = by_side (λ side. AllByRecursion (Fit step given) (queue_of (void_sheet s) side)) tt tt;
   places = by_side (λ side. length (queue_of (void_sheet s) side) ≤ queue_places) (omega arith) (omega arith);
   ranked = by_side (λ side. Ranked (before session' side) (queue_of (void_sheet s) side)) tt tt;
   strange = λ side e. by_side (λ side. queue_of (void_sheet s) side ≡ []) refl refl side;
   shut = λ e. by_side (λ side. queue_of (void_sheet s) side ≡ []) refl refl;
   uncrossed = λ e. tt;
-  averaged = λ e. by_side (λ side. All (λ x. average_of (void_sheet s) ≡ Some x.price) (queue_of (void_sheet s) side)) tt tt;
+  averaged = λ e. by_side (λ side. AllByRecursion (λ x. average_of (void_sheet s) ≡ Some x.price) (queue_of (void_sheet s) side)) tt tt;
   cheapest = o.cheapest;
   dearest = o.dearest;
   bought = omega (arith, o.bought);
@@ -143,7 +143,7 @@ unnamed holder number = λ x. not (named holder number x)
 
 pub cancel-on : (step : ℕ) (session : Session) (given t : ℕ) (s : Sheet) (holder number : ℕ) → OnSheet step session given t s → OnSheet step session given t (cancel_sheet s holder number)
 cancel-on step session given t s holder number o = record {
-  fit = by_side (λ side. All (Fit step given) (queue_of (cancel_sheet s holder number) side)) (all-kept (unnamed holder number) _ _ (o.fit Buy)) (all-kept (unnamed holder number) _ _ (o.fit Sell));
+  fit = by_side (λ side. AllByRecursion (Fit step given) (queue_of (cancel_sheet s holder number) side)) (all-kept (unnamed holder number) _ _ (o.fit Buy)) (all-kept (unnamed holder number) _ _ (o.fit Sell));
   places = by_side (λ side. length (queue_of (cancel_sheet s holder number) side) ≤ queue_places)
       (omega (arith, o.places Buy, length-kept (unnamed holder number) s.buys)) (omega (arith, o.places Sell, length-kept (unnamed holder number) s.sells));
   ranked = by_side (λ side. Ranked (before session side) (queue_of (cancel_sheet s holder number) side))
@@ -151,10 +151,10 @@ cancel-on step session given t s holder number o = record {
   strange = λ side e. by_side (λ side. queue_of (cancel_sheet s holder number) side ≡ []) (ap (without holder number) (o.strange Buy e)) (ap (without holder number) (o.strange Sell e)) side;
   shut = λ e. by_side (λ side. queue_of (cancel_sheet s holder number) side ≡ []) (ap (without holder number) (o.shut e Buy)) (ap (without holder number) (o.shut e Sell));
   uncrossed = λ e.
-      All-weaker (λ b. All (λ x. b.price < x.price) s.sells) (λ b. All (λ x. b.price < x.price) (without holder number s.sells))
+      All-weaker (λ b. AllByRecursion (λ x. b.price < x.price) s.sells) (λ b. AllByRecursion (λ x. b.price < x.price) (without holder number s.sells))
       (λ b a. all-kept (unnamed holder number) (λ x. b.price < x.price) s.sells a) _
-      (all-kept (unnamed holder number) (λ b. All (λ x. b.price < x.price) s.sells) s.buys (o.uncrossed e));
-  averaged = λ e. by_side (λ side. All (λ x. average_of s ≡ Some x.price) (queue_of (cancel_sheet s holder number) side))
+      (all-kept (unnamed holder number) (λ b. AllByRecursion (λ x. b.price < x.price) s.sells) s.buys (o.uncrossed e));
+  averaged = λ e. by_side (λ side. AllByRecursion (λ x. average_of s ≡ Some x.price) (queue_of (cancel_sheet s holder number) side))
       (all-kept (unnamed holder number) _ _ (o.averaged e Buy)) (all-kept (unnamed holder number) _ _ (o.averaged e Sell));
   cheapest = o.cheapest;
   dearest = o.dearest;

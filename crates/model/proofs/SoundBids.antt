@@ -1,6 +1,6 @@
 -- A bid keeps the invariant, and its movements are granted: the whole of it.
-use Rattle.model.specs.Words.{ℕ, suc, ◌+◌, ◌-◌, ◌*◌, ◌%◌, ◌≤◌, ◌<◌, ◌≡◌, refl, Bool, true, false, cond, ltb, eqb, List, [], ◌++◌, All, length, sum_of, Option, Some, None, or_else, only}
-use Rattle.std.proofs.Common.{sym, ap, ◌∙◌, subst, inl, inr, append-nil, arith}
+use Rattle.model.specs.Words.{ℕ, suc, refl, Bool, true, false, cond, ltb, eqb, List, [], AllByRecursion, length, sum_of, Option, Some, None, or_else, only}
+use Rattle.std.proofs.Common.{◌+◌, ◌*◌, ◌%◌, ◌≤◌, ◌<◌, ◌≡◌, ◌++◌, sym, ap, ◌∙◌, subst, inl, inr, append-nil, arith}
 use Rattle.std.proofs.lemmas.Bool.Decides.{nat_tests}
 use Rattle.std.proofs.ByRecursion.{All-weaker}
 use Rattle.std.proofs.lemmas.Bool.{true≢false, cond_both, cond-true, cond-false, and_parts, ltb-false, eqb-true, eqb-false, cases_eq}
@@ -115,8 +115,8 @@ module _ (r : Rule) (w : World) (b : Bid) (k : Taken r w b) (s : Sound r.step w)
       positive : (n : ℕ) → (n ≡ 0 → ⊥) → 0 < n
       positive n ne = omega arith
 
-  entered_all : (P : Standing → Type 0) → All P own → (0 < rest w b → P (newcomer w b)) → All P (entered w b)
-  entered_all P a p = entered_by (All P) (λ _. a) (λ h. all-insert_ranked (before w.session side) (newcomer w b) P own (p h) a)
+  entered_all : (P : Standing → Type 0) → AllByRecursion P own → (0 < rest w b → P (newcomer w b)) → AllByRecursion P (entered w b)
+  entered_all P a p = entered_by (AllByRecursion P) (λ _. a) (λ h. all-insert_ranked (before w.session side) (newcomer w b) P own (p h) a)
 
   -- what the newcomer adds to a sum over its queue
   abbrev added : (Standing → ℕ) → ℕ
@@ -205,7 +205,7 @@ module _ (r : Rule) (w : World) (b : Bid) (k : Taken r w b) (s : Sound r.step w)
         places = omega (arith, served-length face.served, s.places t (other side));
         ranked = (queues-stay-ranked w b).own (s.ranked t side);
         rankeds = (queues-stay-ranked w b).others (s.ranked t (other side));
-        apart = λ e. entered_all (λ x. All (Below side x) (met w b).queue) (still e) (newly e);
+        apart = λ e. entered_all (λ x. AllByRecursion (Below side x) (met w b).queue) (still e) (newly e);
         averaged = λ e. entered_all (λ x. average worth traded ≡ Some x.price)
             (All-weaker (λ x. average_of sheet ≡ Some x.price) (λ x. average worth traded ≡ Some x.price) (λ x g. same-average e ∙ g) own (s.averaged e t side))
             (λ h. same-average e ∙ post-limit e ∙ (rested h).limited ∙ ap Some (sym (newcomer-price h)));
@@ -222,16 +222,16 @@ module _ (r : Rule) (w : World) (b : Bid) (k : Taken r w b) (s : Sound r.step w)
       theirs : side ≡ Sell → standing_lots (queue_of sheet Buy) ≡ lots_of (bid_trades w b) + standing_lots (met w b).queue
       theirs e = let q = ap (λ (d : Side). standing_lots (queue_of sheet (other d))) e in omega (arith, q, face.theirs)
 
-      still : is_trading w.session ≡ true → All (λ x. All (Below side x) (met w b).queue) own
+      still : is_trading w.session ≡ true → AllByRecursion (λ x. AllByRecursion (Below side x) (met w b).queue) own
       still e =
-          All-weaker (λ x. All (Below side x) others) (λ x. All (Below side x) (met w b).queue) (λ x a. served-all (Below side x) (price-only side x) face.served a) own
+          All-weaker (λ x. AllByRecursion (Below side x) others) (λ x. AllByRecursion (Below side x) (met w b).queue) (λ x a. served-all (Below side x) (price-only side x) face.served a) own
           (old_apart r.step w.session w.given t sheet side (on-sheet r.step w s t) e)
         where
           price-only : (d : Side) (x y : Standing) (n : ℕ) → Below d x y → Below d x (with_lots y n)
           price-only Buy x y n h = h
           price-only Sell x y n h = h
 
-      newly : is_trading w.session ≡ true → 0 < rest w b → All (Below side (newcomer w b)) (met w b).queue
+      newly : is_trading w.session ≡ true → 0 < rest w b → AllByRecursion (Below side (newcomer w b)) (met w b).queue
       newly e h =
           let q = rested h in
           let ranked : Ranked (by_price (other side)) others = subst (λ (z : Standing → Standing → Bool). Ranked z others) (by-price w.session (other side) e) (s.ranked t (other side)) in

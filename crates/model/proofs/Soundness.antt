@@ -1,6 +1,6 @@
 -- Every call keeps the invariant; its movements are granted; its trades have room; the sums fit.
-use Rattle.model.specs.Words.{ℕ, ◌*◌, ◌≤◌, ◌≡◌, refl, List, [], ◌∷◌, joined, length, Option, Some, None, All}
-use Rattle.std.proofs.Common.{arith, length-append}
+use Rattle.model.specs.Words.{ℕ, refl, List, [], joined, length, Option, Some, None, AllByRecursion}
+use Rattle.std.proofs.Common.{◌*◌, ◌≤◌, ◌≡◌, ◌∷◌, arith, length-append}
 use Rattle.std.proofs.lemmas.Bool.{leb-true}
 use Rattle.model.specs.Market.{Call, Start, Deposit, Withdraw, Place, Cancel, Open, EndTrading, EndPostTrading, Cause, Buy, Sell, other, tickers, bid_room, opening_room}
 use Rattle.model.specs.Matching.{trades_of}
@@ -44,7 +44,7 @@ next-granted r lawful w (Open room) e s = (open_made r w s (is-pre r w room e)).
 next-granted r lawful w EndTrading e s = (void-made r.step w s (end-trading-open r w e)).granted
 next-granted r lawful w EndPostTrading e s = (void-made r.step w s (end-post-open r w e)).granted
 
-joined_length : {X Y : Type 0} (f : X → List Y) (n : ℕ) (xs : List X) → All (λ x. length (f x) ≤ n) xs → length (joined f xs) ≤ n * length xs
+joined_length : {X Y : Type 0} (f : X → List Y) (n : ℕ) (xs : List X) → AllByRecursion (λ x. length (f x) ≤ n) xs → length (joined f xs) ≤ n * length xs
 joined_length f n [] a = omega arith
 joined_length f n (x ∷ xs) a = let ih = joined_length f n xs a.1 in let e = length-append (f x) (joined f xs) in omega (arith, ih, e, a.0)
 
@@ -99,7 +99,7 @@ granted-known (move.Block h a n) b e = let k = known-block b h a n e in (k.holde
 granted-known (move.Release h a n) b e = let k = known-release b h a n e in (k.holder, k.asset)
 granted-known (move.Pay h a n p) b e = let k = known-pay b h a n p e in (k.holder, k.asset, payee-known b h a n p e)
 
-all_known : (ms : List Move) (b : Book) → Granted ms b → All (OfAccounts 16 12) ms
+all_known : (ms : List Move) (b : Book) → Granted ms b → AllByRecursion (OfAccounts 16 12) ms
 all_known [] b g = tt
 all_known (m ∷ ms) b g = (granted-known m b g.0, all_known ms (moved b m) g.1)
 

@@ -1,6 +1,6 @@
 -- One call and its entry in the tally: accepted or refused.
-use Rattle.model.specs.Words.{◌≡◌, refl, false, cond, [], Option, Some, None}
-use Rattle.std.proofs.Common.{sym, subst}
+use Rattle.model.specs.Words.{refl, false, cond, [], Option, Some, None}
+use Rattle.std.proofs.Common.{◌≡◌, sym, subst}
 use Rattle.std.proofs.lemmas.Bool.{cond-false}
 use Rattle.model.specs.Market.{Call, Start, Deposit, Withdraw, Place, Cancel, Open, EndTrading, EndPostTrading, Cause, Refused}
 use Rattle.model.specs.World.{World}

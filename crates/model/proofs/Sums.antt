@@ -1,6 +1,6 @@
 -- Sums over lists and over the tickers.
-use Rattle.model.specs.Words.{ℕ, ◌+◌, ◌≤◌, ◌≡◌, refl, Bool, true, false, cond, not, eqb, leb, List, [], ◌∷◌, ◌++◌, All, length, kept, only, sum_of}
-use Rattle.std.proofs.Common.{ap, subst, inl, inr, arith}
+use Rattle.model.specs.Words.{ℕ, refl, Bool, true, false, cond, not, eqb, leb, List, [], AllByRecursion, length, kept, only, sum_of}
+use Rattle.std.proofs.Common.{◌+◌, ◌≤◌, ◌≡◌, ◌∷◌, ◌++◌, ap, subst, inl, inr, arith}
 use Rattle.std.proofs.lemmas.Bool.Decides.{nat_tests}
 use Rattle.std.proofs.lemmas.Bool.{cases_eq, and_parts, leb-true}
 use Rattle.model.specs.Market.{Side, Buy, Sell, tickers, ticker_known}
@@ -23,25 +23,25 @@ module _ {X : Type 0} (f : X → ℕ) where
       step true ih = omega (arith, ih)
       step false ih = omega (arith, ih)
 
-pub sum_same : {X : Type 0} (f g : X → ℕ) (xs : List X) → All (λ x. f x ≡ g x) xs → sum_of f xs ≡ sum_of g xs
+pub sum_same : {X : Type 0} (f g : X → ℕ) (xs : List X) → AllByRecursion (λ x. f x ≡ g x) xs → sum_of f xs ≡ sum_of g xs
 sum_same f g [] e = refl
 sum_same f g (x ∷ xs) e = omega (arith, sum_same f g xs e.1, e.0)
 
-pub sum-most : {X : Type 0} (f g : X → ℕ) (xs : List X) → All (λ x. f x ≤ g x) xs → sum_of f xs ≤ sum_of g xs
+pub sum-most : {X : Type 0} (f g : X → ℕ) (xs : List X) → AllByRecursion (λ x. f x ≤ g x) xs → sum_of f xs ≤ sum_of g xs
 sum-most f g [] e = omega arith
 sum-most f g (x ∷ xs) e = omega (arith, sum-most f g xs e.1, e.0)
 
-pub all_of : {X : Type 0} (P : X → Type 0) → ((x : X) → P x) → (xs : List X) → All P xs
-all_of P h [] = tt
-all_of P h (x ∷ xs) = (h x, all_of P h xs)
+pub each_of : {X : Type 0} (P : X → Type 0) → ((x : X) → P x) → (xs : List X) → AllByRecursion P xs
+each_of P h [] = tt
+each_of P h (x ∷ xs) = (h x, each_of P h xs)
 
 -- ---- those that pass a test
 module _ {X : Type 0} (p : X → Bool) where
-  pub all-kept : (P : X → Type 0) (xs : List X) → All P xs → All P (kept p xs)
+  pub all-kept : (P : X → Type 0) (xs : List X) → AllByRecursion P xs → AllByRecursion P (kept p xs)
   all-kept P [] a = tt
   all-kept P (x ∷ xs) a = step (p x) (all-kept P xs a.1)
     where
-      step : (b : Bool) → All P (kept p xs) → All P (only b x ++ kept p xs)
+      step : (b : Bool) → AllByRecursion P (kept p xs) → AllByRecursion P (only b x ++ kept p xs)
       step true ih = (a.0, ih)
       step false ih = ih
 

@@ -1,6 +1,6 @@
 -- A trade moves its lots one way and price × lots the other, and a call changes what the holders have by its trades alone.
-use Rattle.model.specs.Words.{ℕ, ◌-◌, ◌*◌, ◌<◌, ◌≡◌, ◌≢◌, refl, true, false, List, [], ◌∷◌, joined, All, Option, Some, None}
-use Rattle.std.proofs.Common.{sym, ap, ◌∙◌, arith}
+use Rattle.model.specs.Words.{ℕ, refl, true, false, List, [], joined, AllByRecursion, Option, Some, None}
+use Rattle.std.proofs.Common.{◌*◌, ◌<◌, ◌≡◌, ◌≢◌, ◌∷◌, sym, ap, ◌∙◌, arith}
 use Rattle.std.proofs.ByRecursion.{All-append}
 use Rattle.std.proofs.lemmas.Bool.{true≢false}
 use Rattle.model.specs.Market.{Call, Start, Deposit, Withdraw, Place, Cancel, Open, EndTrading, EndPostTrading, Cause, Listing, Trade, is_closed, ticker_known, tickers}
@@ -105,15 +105,15 @@ pub a-trade-moves : ATradeMoves 0
 a-trade-moves = record { between = swapped; alone = unmoved }
 
 -- ---- the trades of a call
-each-covered : (l : Listing) (xs : List Trade) (f : Sums) → All (λ x. money_of l x ≢ x.ticker) xs → Backed l xs f → EachCovered l xs f
+each-covered : (l : Listing) (xs : List Trade) (f : Sums) → AllByRecursion (λ x. money_of l x ≢ x.ticker) xs → Backed l xs f → EachCovered l xs f
 each-covered l [] f a b = tt
 each-covered l (x ∷ xs) f a b = (record { goods = b.0; money = b.1; apart = a.0 }, each-covered l xs (exchanged l x f) a.1 b.2)
 
-all-joined : {X Y : Type 0} (P : Y → Type 0) (f : X → List Y) (xs : List X) → All (λ x. All P (f x)) xs → All P (joined f xs)
+all-joined : {X Y : Type 0} (P : Y → Type 0) (f : X → List Y) (xs : List X) → AllByRecursion (λ x. AllByRecursion P (f x)) xs → AllByRecursion P (joined f xs)
 all-joined P f [] a = tt
 all-joined P f (x ∷ xs) a = All-append P (f x) (joined f xs) a.0 (all-joined P f xs a.1)
 
-deals-apart : (l : Listing) (t : ℕ) (ds : List Deal) → valid_listing l ≡ true → ticker_known t ≡ true → All (Payable t) ds → All (λ x. money_of l x ≢ x.ticker) (trades_of ds)
+deals-apart : (l : Listing) (t : ℕ) (ds : List Deal) → valid_listing l ≡ true → ticker_known t ≡ true → AllByRecursion (Payable t) ds → AllByRecursion (λ x. money_of l x ≢ x.ticker) (trades_of ds)
 deals-apart l t ds v k p = all_map (Payable t) (λ x. money_of l x ≢ x.ticker) (λ d. d.trade) (λ d q. currency-apart l d.trade.ticker v (ap ticker_known q.ticker ∙ k)) ds p
 
 -- the world that a call leaves, with the trades it made
@@ -140,7 +140,7 @@ next-left r lawful w (Open room) s k e =
     record {
       covered = each-covered w.listing _ _
           (all-joined (λ x. money_of w.listing x ≢ x.ticker) (λ t. trades_of (opened_at w t).deals) tickers
-          (all-tickers (λ t. All (λ x. money_of w.listing x ≢ x.ticker) (trades_of (opened_at w t).deals))
+          (all-tickers (λ t. AllByRecursion (λ x. money_of w.listing x ≢ x.ticker) (trades_of (opened_at w t).deals))
           (λ t known. deals-apart w.listing t _ (s.listing (ap is_closed pre)) known (opened-at r w s pre t).payable)))
           (m.covered (holdings w.book) (λ h a i j. refl));
       booked = m.sums (holdings w.book) (λ h a i j. refl);

@@ -1,6 +1,6 @@
 -- What the trades leave of the tally's standing bids, seen as queues.
-use Rattle.model.specs.Words.{ℕ, ◌+◌, ◌-◌, ◌≤◌, ◌<◌, ◌≡◌, refl, Bool, true, false, cond, ◌&&◌, ◌||◌, ltb, eqb, List, [], ◌∷◌, ◌++◌, map, joined, All, kept, only, Option, Some, None, or_else, Permᴰ}
-use Rattle.std.proofs.Common.{sym, ap, ◌∙◌, subst, append_assoc, append-nil, arith}
+use Rattle.model.specs.Words.{ℕ, refl, Bool, true, false, cond, ltb, eqb, List, [], map, joined, AllByRecursion, kept, only, Option, Some, None, or_else, Permᴰ}
+use Rattle.std.proofs.Common.{◌-◌, ◌≤◌, ◌<◌, ◌≡◌, ◌&&◌, ◌||◌, ◌∷◌, ◌++◌, sym, ap, ◌∙◌, subst, append_assoc, append-nil, arith}
 use mathlib.Core.List.Permᴰ
 use Rattle.std.proofs.lemmas.Bool.Decides.{nat_tests}
 use Rattle.std.proofs.lemmas.Bool.{cond-true, cond-false, lt-ltb, le-ltb}
@@ -18,7 +18,7 @@ pub joined-append : {X Y : Type 0} (f : X → List Y) (xs ys : List X) → joine
 joined-append f [] ys = refl
 joined-append f (x ∷ xs) ys = ap (λ z. f x ++ z) (joined-append f xs ys) ∙ sym (append_assoc (f x) (joined f xs) (joined f ys))
 
-pub joined_same : {X : Type 0} (f : X → List X) (xs : List X) → All (λ x. f x ≡ x ∷ []) xs → joined f xs ≡ xs
+pub joined_same : {X : Type 0} (f : X → List X) (xs : List X) → AllByRecursion (λ x. f x ≡ x ∷ []) xs → joined f xs ≡ xs
 joined_same f [] a = refl
 joined_same f (x ∷ xs) a = ap (λ z. z ++ joined f xs) a.0 ∙ ap (λ z. x ∷ z) (joined_same f xs a.1)
 
@@ -153,7 +153,7 @@ abbrev pub Distinct : List Standing → Type 0
 Distinct q = Pairwise (λ x y. y.number ≡ x.number → ⊥) q
 
 abbrev pub Absent : ℕ → List Standing → Type 0
-Absent n q = All (λ x. x.number ≡ n → ⊥) q
+Absent n q = AllByRecursion (λ x. x.number ≡ n → ⊥) q
 
 pub absent : (n : ℕ) (q : List Standing) → times_in n q ≡ 0 → Absent n q
 absent n [] e = tt
@@ -176,14 +176,14 @@ distinct (x ∷ q) h = (absent x.number q (others (h x.number)), distinct q (λ 
 pub missed : (x : Trade) (q : List Standing) → Absent x.buy q → Absent x.sell q → joined (taken-from x) q ≡ q
 missed x q a b = joined_same (taken-from x) q (by q a b)
   where
-    by : (q : List Standing) → Absent x.buy q → Absent x.sell q → All (λ s. taken-from x s ≡ s ∷ []) q
+    by : (q : List Standing) → Absent x.buy q → Absent x.sell q → AllByRecursion (λ s. taken-from x s ≡ s ∷ []) q
     by [] a b = tt
     by (s ∷ q) a b = (cond-false (hits x s.number) _ (s ∷ []) (miss a.0 b.0), by q a.1 b.1)
       where
         miss : (s.number ≡ x.buy → ⊥) → (s.number ≡ x.sell → ⊥) → hits x s.number ≡ false
         miss u v = grind (arith, nat_tests)
 
-pub all-missed : (xs : List Trade) (q : List Standing) → All (λ x. Absent x.buy q × Absent x.sell q) xs → takes xs q ≡ q
+pub all-missed : (xs : List Trade) (q : List Standing) → AllByRecursion (λ x. Absent x.buy q × Absent x.sell q) xs → takes xs q ≡ q
 all-missed [] q a = refl
 all-missed (x ∷ xs) q a = ap (takes xs) (missed x q a.0.0 a.0.1) ∙ all-missed xs q a.1
 

@@ -1,7 +1,6 @@
 -- The tally's standing bids and the queues: words on what a tally shows, and that each number stands in one queue alone.
-use Rattle.model.specs.Words.{ℕ, ◌+◌, ◌-◌, ◌≤◌, ◌<◌, ◌≡◌, refl, Bool, true, false, cond, eqb, List, [], ◌∷◌, ◌++◌, joined, All, sum_of, kept, only, Option, Some, None, is_some, or_else, Memᴰ}
-use Rattle.std.proofs.Common.{sym, ap, ◌∙◌, subst, arith}
-use mathlib.Core.List.Memᴰ
+use Rattle.model.specs.Words.{ℕ, refl, Bool, true, false, cond, eqb, List, [], joined, AllByRecursion, sum_of, kept, only, Option, Some, None, is_some, or_else, Memᴰ}
+use Rattle.std.proofs.Common.{◌+◌, ◌≤◌, ◌<◌, ◌≡◌, ◌∷◌, ◌++◌, sym, ap, ◌∙◌, subst, arith}
 use Rattle.std.proofs.lemmas.Bool.Decides.{nat_tests}
 use Rattle.std.proofs.ByRecursion.{All-weaker, All-append}
 use Rattle.std.proofs.lemmas.Bool.{cond-false, true≢false}
@@ -23,7 +22,7 @@ held-priced y y' b e = held_by b.price _ _ e
 pub held-trades : (y y' : Tally) (b : Bid) → y.trades ≡ y'.trades → held_to y b ≡ held_to y' b
 held-trades y y' b e = ap (λ (xs : List Trade). held_to (record { sums = y.sums; listing = y.listing; trades = xs; standing = y.standing; running = y.running }) b) e
 
-pub same-listed : (held held' : Bid → Option ℕ) (t : ℕ) (side : Side) (ks : List Kept) → All (λ k. held k.bid ≡ held' k.bid) ks → listed held t side ks ≡ listed held' t side ks
+pub same-listed : (held held' : Bid → Option ℕ) (t : ℕ) (side : Side) (ks : List Kept) → AllByRecursion (λ k. held k.bid ≡ held' k.bid) ks → listed held t side ks ≡ listed held' t side ks
 same-listed held held' t side [] a = refl
 same-listed held held' t side (k ∷ ks) a =
     ap (λ (p : Option ℕ). only (belongs held t side k) (record { number = k.number; holder = k.bid.holder; price = or_else p 0; lots = k.lots }) ++ listed held t side ks) a.0
@@ -33,17 +32,17 @@ pub standing-listed : (y : Tally) (t : ℕ) (side : Side) → standing_of y t si
 standing-listed y t side = as-listed (held_to y) t side y.standing
 
 -- ---- what is said of bids stays with those that are left
-all-kept_as : (P : Bid → Type 0) (k : Kept) (o : Option ℕ) → P k.bid → All (λ z. P z.bid) (kept_as k o)
+all-kept_as : (P : Bid → Type 0) (k : Kept) (o : Option ℕ) → P k.bid → AllByRecursion (λ z. P z.bid) (kept_as k o)
 all-kept_as P k (Some n) p = (p, tt)
 all-kept_as P k None p = tt
 
-all-reduced : (P : Bid → Type 0) (x : Trade) (ks : List Kept) → All (λ z. P z.bid) ks → All (λ z. P z.bid) (joined (reduced_by x) ks)
+all-reduced : (P : Bid → Type 0) (x : Trade) (ks : List Kept) → AllByRecursion (λ z. P z.bid) ks → AllByRecursion (λ z. P z.bid) (joined (reduced_by x) ks)
 all-reduced P x [] a = tt
 all-reduced P x (k ∷ ks) a =
     All-append (λ z. P z.bid) (reduced_by x k) (joined (reduced_by x) ks)
-    (subst (All (λ z. P z.bid)) (sym (kept_leaves x k)) (all-kept_as P k (leaves x k.number k.lots) a.0)) (all-reduced P x ks a.1)
+    (subst (AllByRecursion (λ z. P z.bid)) (sym (kept_leaves x k)) (all-kept_as P k (leaves x k.number k.lots) a.0)) (all-reduced P x ks a.1)
 
-pub all-takings : (P : Bid → Type 0) (xs : List Trade) (ks : List Kept) → All (λ z. P z.bid) ks → All (λ z. P z.bid) (takings xs ks)
+pub all-takings : (P : Bid → Type 0) (xs : List Trade) (ks : List Kept) → AllByRecursion (λ z. P z.bid) ks → AllByRecursion (λ z. P z.bid) (takings xs ks)
 all-takings P [] ks a = a
 all-takings P (x ∷ xs) ks a = all-takings P xs (joined (reduced_by x) ks) (all-reduced P x ks a)
 
@@ -56,7 +55,7 @@ kept_append p f (x ∷ xs) ys = by (p x) (kept_append p f xs ys)
     by true ih = omega (arith, ih)
     by false ih = ih
 
-pub ticker-sum : (f : Trade → ℕ) (t u : ℕ) (xs : List Trade) → All (λ x. x.ticker ≡ t) xs → sum_of f (kept (λ x. eqb x.ticker u) xs) ≡ cond (eqb u t) (sum_of f xs) 0
+pub ticker-sum : (f : Trade → ℕ) (t u : ℕ) (xs : List Trade) → AllByRecursion (λ x. x.ticker ≡ t) xs → sum_of f (kept (λ x. eqb x.ticker u) xs) ≡ cond (eqb u t) (sum_of f xs) 0
 ticker-sum f t u [] a = by (eqb u t)
   where
     by : (b : Bool) → ◌≡◌ {A = ℕ} 0 (cond b 0 0)
@@ -71,7 +70,7 @@ ticker-sum f t u (x ∷ xs) a = by (eqb x.ticker u) (eqb u t) refl refl (ticker-
     by false false e g ih = ih
 
 -- ---- each number stands in one queue alone
-pub all_from : {X : Type 0} (P : X → Type 0) (xs : List X) → ((x : X) → Memᴰ x xs → P x) → All P xs
+pub all_from : {X : Type 0} (P : X → Type 0) (xs : List X) → ((x : X) → Memᴰ x xs → P x) → AllByRecursion P xs
 all_from P [] h = tt
 all_from P (x ∷ xs) h = (h x (Memᴰ.head refl), all_from P xs (λ y m. h y (Memᴰ.tail m)))
 
@@ -126,10 +125,10 @@ module _ (step : ℕ) (w : World) (s : Sound step w) where
       by false c p q = omega (arith, in_queue n v e, ap (times_in n) (s.strange u d p))
 
   -- so the numbers of one queue are absent from every other
-  pub absent-here : (u : ℕ) (d : Side) → All (λ x. Absent x.number (queue w u d)) (queue w u (other d))
+  pub absent-here : (u : ℕ) (d : Side) → AllByRecursion (λ x. Absent x.number (queue w u d)) (queue w u (other d))
   absent-here u d = all_from (λ x. Absent x.number (queue w u d)) (queue w u (other d)) (λ x m. absent x.number (queue w u d) (omega (arith, in_both x.number u d, mem-times m)))
 
-  pub absent-there : (u v : ℕ) (d e : Side) → (u ≡ v → ⊥) → All (λ x. Absent x.number (queue w u d)) (queue w v e)
+  pub absent-there : (u v : ℕ) (d e : Side) → (u ≡ v → ⊥) → AllByRecursion (λ x. Absent x.number (queue w u d)) (queue w v e)
   absent-there u v d e ne = all_from (λ x. Absent x.number (queue w u d)) (queue w v e) (λ x m. absent x.number (queue w u d) (omega (arith, in_two x.number u v d e ne, mem-times m)))
 
   -- and a number not given yet is nowhere

@@ -1,6 +1,6 @@
 -- Answers tell the trades.
-use Rattle.model.specs.Words.{ℕ, ◌≤◌, ◌≡◌, refl, Bool, true, false, cond, not, ◌&&◌, [], length, Option, Some, None, is_some}
-use Rattle.std.proofs.Common.{subst, arith}
+use Rattle.model.specs.Words.{ℕ, refl, Bool, true, false, cond, not, [], length, Option, Some, None, is_some}
+use Rattle.std.proofs.Common.{◌≤◌, ◌≡◌, ◌&&◌, subst, arith}
 use Rattle.model.specs.Market.{Session, Bid, Receipt, Place, Open, Placed, Opened, Refused, Cause}
 use Rattle.model.specs.World.{World}
 use Rattle.model.specs.Bidding.{limit_of, met, bid_trades}

@@ -1,6 +1,6 @@
 -- A bid keeps the tally tied to the queues.
-use Rattle.model.specs.Words.{ℕ, ◌+◌, ◌-◌, ◌*◌, ◌<◌, ◌≡◌, refl, Bool, true, false, cond, not, ◌&&◌, ltb, eqb, List, [], ◌∷◌, ◌++◌, All, sum_of, kept, only, Option, Some, None, is_some, or_else, Permᴰ}
-use Rattle.std.proofs.Common.{◌⊎◌, sym, ap, ◌∙◌, subst, inl, inr, append-nil, arith}
+use Rattle.model.specs.Words.{ℕ, refl, Bool, true, false, cond, not, ltb, eqb, List, [], AllByRecursion, sum_of, kept, only, Option, Some, None, is_some, or_else, Permᴰ}
+use Rattle.std.proofs.Common.{◌+◌, ◌*◌, ◌<◌, ◌≡◌, ◌&&◌, ◌∷◌, ◌++◌, ◌⊎◌, sym, ap, ◌∙◌, subst, inl, inr, append-nil, arith}
 use mathlib.Core.List.Permᴰ
 use Rattle.std.proofs.lemmas.Bool.Decides.{nat_tests}
 use Rattle.std.proofs.ByRecursion.{All-weaker, All-append}
@@ -53,7 +53,7 @@ encounter-by P number b limit q u m Trading = cond_both (b.entire && ltb 0 (meet
 encounter-by P number b limit q u m PostTrading = cond_both (b.entire && ltb 0 (meeting number b limit q).left) (untouched b.lots q) (meeting number b limit q) P (λ _. u) (λ _. m)
 
 abbrev Avoids : List Standing → List Trade → Type 0
-Avoids z xs = All (λ x. Absent x.buy z × Absent x.sell z) xs
+Avoids z xs = AllByRecursion (λ x. Absent x.buy z × Absent x.sell z) xs
 
 module _ (r : Rule) (w : World) (b : Bid) (k : Taken r w b) (s : Sound r.step w) (y : Tally) (tied : Tied w y) where
   abbrev t : ℕ
@@ -86,7 +86,7 @@ module _ (r : Rule) (w : World) (b : Bid) (k : Taken r w b) (s : Sound r.step w)
       w.session
 
   -- a queue that holds none of the numbers
-  avoids : (z : List Standing) → Absent N z → All (λ x. Absent x.number z) (queue w t (other side)) → Avoids z xs
+  avoids : (z : List Standing) → Absent N z → AllByRecursion (λ x. Absent x.number z) (queue w t (other side)) → Avoids z xs
   avoids z n a =
       encounter-by (λ m. Avoids z (trades_of m.deals)) N b limit (queue w t (other side)) tt
       (all_map (λ d. Absent d.trade.buy z × Absent d.trade.sell z) (λ x. Absent x.buy z × Absent x.sell z) (λ d. d.trade) (λ d h. h) _
@@ -103,22 +103,22 @@ module _ (r : Rule) (w : World) (b : Bid) (k : Taken r w b) (s : Sound r.step w)
   -- ---- prices do not change
   same-trades : is_post_trading w.session ≡ true → y'.trades ≡ y.trades
   same-trades e =
-      let f : y.running ≡ false = tied.running ∙ not-trading w.session e in
+      let f : y.running ≡ false = tied.running ∙ not_trading w.session e in
       ap (λ (z : List Trade). y.trades ++ z) (cond-false y.running xs [] f) ∙ append-nil y.trades
     where
-      not-trading : (x : Session) → is_post_trading x ≡ true → is_trading x ≡ false
-      not-trading Closed e = refl
-      not-trading PreTrading e = refl
-      not-trading Trading e = absurd (true≢false (sym e))
-      not-trading PostTrading e = refl
+      not_trading : (x : Session) → is_post_trading x ≡ true → is_trading x ≡ false
+      not_trading Closed e = refl
+      not_trading PreTrading e = refl
+      not_trading Trading e = absurd (true≢false (sym e))
+      not_trading PostTrading e = refl
 
-  same-held : All (λ k. held_to y' k.bid ≡ held_to y k.bid) y.standing
+  same-held : AllByRecursion (λ k. held_to y' k.bid ≡ held_to y k.bid) y.standing
   same-held = elim (cases_Bool (is_post_trading w.session)) [
     | inl e ↦ every_one y.standing (λ k. held-trades y' y k.bid (same-trades e))
     | inr e ↦ All-weaker (λ k. is_some k.bid.price ≡ not (is_post_trading w.session)) (λ k. held_to y' k.bid ≡ held_to y k.bid) (λ k f. held-priced y' y k.bid (f ∙ ap not e)) y.standing tied.form
   ]
     where
-      every_one : (ks : List Kept) → ((k : Kept) → held_to y' k.bid ≡ held_to y k.bid) → All (λ k. held_to y' k.bid ≡ held_to y k.bid) ks
+      every_one : (ks : List Kept) → ((k : Kept) → held_to y' k.bid ≡ held_to y k.bid) → AllByRecursion (λ k. held_to y' k.bid ≡ held_to y k.bid) ks
       every_one [] h = tt
       every_one (k ∷ ks) h = (h k, every_one ks h)
 
@@ -264,7 +264,7 @@ module _ (r : Rule) (w : World) (b : Bid) (k : Taken r w b) (s : Sound r.step w)
       here (inr e) = subst (λ (z : Side). Permᴰ (standing_of y' t z) (after-queue t z)) (sym e) tied-other
 
   -- ---- the day's trades
-  trades-here : All (λ x. x.ticker ≡ t) xs
+  trades-here : AllByRecursion (λ x. x.ticker ≡ t) xs
   trades-here = all_map (Payable t) (λ x. x.ticker ≡ t) (λ d. d.trade) (λ d p. p.ticker) (met w b).deals (face r w b k s).payable
 
   counted-sum : (f : Trade → ℕ) (u : ℕ) → sum_of f (kept (λ x. eqb x.ticker u) y'.trades) ≡ sum_of f (kept (λ x. eqb x.ticker u) y.trades) + cond (eqb u t) (counted w.session (sum_of f xs)) 0
@@ -318,17 +318,17 @@ module _ (r : Rule) (w : World) (b : Bid) (k : Taken r w b) (s : Sound r.step w)
       ∙ sheet-sum (λ z. z.traded) (counted w.session (lots_of xs)) u (sheet-traded side _ _ _ _)
 
   -- ---- the bids that stand
-  now-standing : (P : Bid → Type 0) → All (λ z. P z.bid) y.standing → (0 < rest w b → P b) → All (λ z. P z.bid) y'.standing
+  now-standing : (P : Bid → Type 0) → AllByRecursion (λ z. P z.bid) y.standing → (0 < rest w b → P b) → AllByRecursion (λ z. P z.bid) y'.standing
   now-standing P a p = All-append (λ z. P z.bid) (takings xs y.standing) (only (ltb 0 (rest w b)) new) (all-takings P xs y.standing a) (by (ltb 0 (rest w b)) refl)
     where
-      by : (q : Bool) → ltb 0 (rest w b) ≡ q → All (λ z. P z.bid) (only q new)
+      by : (q : Bool) → ltb 0 (rest w b) ≡ q → AllByRecursion (λ z. P z.bid) (only q new)
       by true e = (p (ltb-true 0 (rest w b) e), tt)
       by false e = tt
 
-  pub bid-known : All (λ z. ticker_known z.bid.ticker ≡ true) y'.standing
+  pub bid-known : AllByRecursion (λ z. ticker_known z.bid.ticker ≡ true) y'.standing
   bid-known = now-standing (λ z. ticker_known z.ticker ≡ true) tied.known (λ _. k.ticker)
 
-  pub bid-form : All (λ z. is_some z.bid.price ≡ not (is_post_trading w.session)) y'.standing
+  pub bid-form : AllByRecursion (λ z. is_some z.bid.price ≡ not (is_post_trading w.session)) y'.standing
   bid-form = now-standing (λ z. is_some z.price ≡ not (is_post_trading w.session)) tied.form (λ h. elim (cases_Bool (is_post_trading w.session)) [ inl e ↦ post e | inr e ↦ priced h e ])
     where
       post : is_post_trading w.session ≡ true → is_some b.price ≡ not (is_post_trading w.session)

@@ -1,6 +1,6 @@
 -- A cancellation keeps the tally tied to the queues.
-use Rattle.model.specs.Words.{ℕ, ◌+◌, ◌≤◌, ◌≡◌, refl, Bool, true, false, cond, not, ◌&&◌, ◌||◌, eqb, List, [], ◌∷◌, ◌++◌, All, sum_of, kept, only, any_of, Option, Permᴰ}
-use Rattle.std.proofs.Common.{sym, ap, ◌∙◌, subst, inl, inr, append-nil, arith}
+use Rattle.model.specs.Words.{ℕ, refl, Bool, true, false, cond, not, eqb, List, [], AllByRecursion, sum_of, kept, only, any_of, Option, Permᴰ}
+use Rattle.std.proofs.Common.{◌+◌, ◌≤◌, ◌≡◌, ◌&&◌, ◌||◌, ◌∷◌, ◌++◌, sym, ap, ◌∙◌, subst, inl, inr, append-nil, arith}
 use Rattle.std.proofs.lemmas.Bool.Decides.{nat_tests}
 use Rattle.std.proofs.ByRecursion.{All-weaker}
 use Rattle.std.proofs.lemmas.Bool.{cases_eq}
@@ -49,7 +49,7 @@ listed_kept held t side n (k ∷ ks) =
     ∙ ap (λ z. kept (other-number n) (here held t side k) ++ z) (listed_kept held t side n ks)
     ∙ sym (joined-append (λ x. only (other-number n x) x) (here held t side k) (listed held t side ks))
 
-kept_same : {X : Type 0} (p q : X → Bool) (xs : List X) → All (λ x. p x ≡ q x) xs → kept p xs ≡ kept q xs
+kept_same : {X : Type 0} (p q : X → Bool) (xs : List X) → AllByRecursion (λ x. p x ≡ q x) xs → kept p xs ≡ kept q xs
 kept_same p q [] a = refl
 kept_same p q (x ∷ xs) a = ap (λ (b : Bool). only b x ++ kept p xs) a.0 ∙ ap (λ z. only (q x) x ++ z) (kept_same p q xs a.1)
 
@@ -75,7 +75,7 @@ some-named h n (x ∷ q) e = by (named h n x) e (some-named h n q)
     by false e ih = omega (arith, ih e)
 some-named h n [] e = absurd (grind (arith, nat_tests))
 
-pointwise : (h n : ℕ) (q : List Standing) → named_times h n q ≡ times_in n q → All (λ x. other-number n x ≡ not (named h n x)) q
+pointwise : (h n : ℕ) (q : List Standing) → named_times h n q ≡ times_in n q → AllByRecursion (λ x. other-number n x ≡ not (named h n x)) q
 pointwise h n [] e = tt
 pointwise h n (x ∷ q) e = (here (named-within h n q), pointwise h n q (rest (named-within h n q)))
   where

@@ -1,6 +1,6 @@
 -- The opening keeps the tally tied to the queues.
-use Rattle.model.specs.Words.{ℕ, ◌+◌, ◌-◌, ◌*◌, ◌≤◌, ◌≡◌, refl, Bool, true, false, cond, not, leb, ltb, eqb, List, [], ◌∷◌, ◌++◌, joined, All, length, sum_of, kept, only, Option, Some, None, is_some, Permᴰ}
-use Rattle.std.proofs.Common.{sym, ap, ◌∙◌, subst, inl, inr, arith}
+use Rattle.model.specs.Words.{ℕ, refl, Bool, true, false, cond, not, leb, ltb, eqb, List, [], joined, AllByRecursion, length, sum_of, kept, only, Option, Some, None, is_some, Permᴰ}
+use Rattle.std.proofs.Common.{◌+◌, ◌*◌, ◌≤◌, ◌≡◌, ◌∷◌, ◌++◌, sym, ap, ◌∙◌, subst, inl, inr, arith}
 use Rattle.std.proofs.lemmas.Bool.Decides.{nat_tests}
 use Rattle.std.proofs.ByRecursion.{All-weaker, All-append}
 use Rattle.std.proofs.lemmas.Bool.{cases_eq, lt-ltb, ne_eqb, cond-false, true≢false}
@@ -28,10 +28,10 @@ use Rattle.model.proofs.Tallies.{held-priced, same-listed, standing-listed, all-
 use Rattle.rules.specs.Rules.{Rule}
 
 abbrev Avoids : List Standing → List Trade → Type 0
-Avoids z xs = All (λ x. Absent x.buy z × Absent x.sell z) xs
+Avoids z xs = AllByRecursion (λ x. Absent x.buy z × Absent x.sell z) xs
 
 abbrev Apart : List Standing → List Standing → Type 0
-Apart z q = All (λ x. Absent x.number z) q
+Apart z q = AllByRecursion (λ x. Absent x.number z) q
 
 auctioned-names : (t o : ℕ) (b : Standing) → Naming (auctioned t o b) b.number
 auctioned-names t o b = record { lots = λ x k. refl; hit = λ x k. grind (arith, nat_tests); hit_new = λ x k. grind (arith, nat_tests); miss = λ x k q u v. (v, u) }
@@ -83,8 +83,8 @@ uncross-avoids t o z (b ∷ buys) sells u v =
         subst (Avoids z) (sym (trades-join m.deals r.deals)) (All-append (λ x. Absent x.buy z × Absent x.sell z) (trades_of m.deals) (trades_of r.deals) p q)
 
 pub record Both (buys sells : List Standing) (r : Opened) : Type 0 where
-  pub of-buys : takes (trades_of r.deals) buys ≡ r.buys
-  pub of-sells : takes (trades_of r.deals) sells ≡ r.sells
+  pub of_buys : takes (trades_of r.deals) buys ≡ r.buys
+  pub of_sells : takes (trades_of r.deals) sells ≡ r.sells
 
 flip : (p q : List Standing) → Apart p q → Apart q p
 flip [] q a = tt
@@ -94,9 +94,9 @@ flip (x ∷ p) q a = (heads q a, flip p q (All-weaker (λ y. Absent y.number (x 
     heads [] a = tt
     heads (y ∷ q) a = ((λ e. a.0.0 (sym e)), heads q a.1)
 
-uncross-takes : (t o : ℕ) (buys sells : List Standing) → Distinct buys → Distinct sells → Apart buys sells → All (λ x. 1 ≤ x.lots) buys → Both buys sells (uncross t o buys sells)
+uncross-takes : (t o : ℕ) (buys sells : List Standing) → Distinct buys → Distinct sells → Apart buys sells → AllByRecursion (λ x. 1 ≤ x.lots) buys → Both buys sells (uncross t o buys sells)
 unfolding uncross
-uncross-takes t o [] sells d e a l = record { of-buys = refl; of-sells = refl }
+uncross-takes t o [] sells d e a l = record { of_buys = refl; of_sells = refl }
 uncross-takes t o (b ∷ buys) sells d e a l =
     let g = meet-graph (λ p. leb p o) (auctioned t o b) b.lots sells in
     let m = meet (λ p. leb p o) (auctioned t o b) b.lots sells in
@@ -111,7 +111,7 @@ uncross-takes t o (b ∷ buys) sells d e a l =
         (cond c
         (record { deals = m.deals ++ r.deals; buys = only (ltb 0 m.left) (with_lots b m.left) ++ r.buys; sells = r.sells })
         (unopened (b ∷ buys) sells))
-    by false g u v i = record { of-buys = refl; of-sells = refl }
+    by false g u v i = record { of_buys = refl; of_sells = refl }
     by true g u v i =
         let m = meet (λ p. leb p o) (auctioned t o b) b.lots sells in
         let r = uncross t o buys m.queue in
@@ -119,14 +119,14 @@ uncross-takes t o (b ∷ buys) sells d e a l =
         let rs = trades_of r.deals in
         let both : (q : List Standing) → takes (trades_of (m.deals ++ r.deals)) q ≡ takes rs (takes ms q) = λ q. ap (λ z. takes z q) (trades-join m.deals r.deals) ∙ takes-append ms rs q in
         record {
-          of-buys =
+          of_buys =
               both (b ∷ buys)
               ∙ ap (takes rs) (takes-split ms (b ∷ []) buys ∙ ap (λ z. takes ms z ++ takes ms buys) own_row ∙ ap (λ z. z ++ takes ms buys) (meets-takes-own (auctioned-names t o b) b refl g)
               ∙ ap (λ z. only (ltb 0 m.left) (with_lots b m.left) ++ z) (all-missed ms buys (one-avoids t o b buys sells g d.0 u)))
               ∙ takes-split rs (only (ltb 0 m.left) (with_lots b m.left)) buys
               ∙ ap (λ z. z ++ takes rs buys) (all-missed rs (only (ltb 0 m.left) (with_lots b m.left)) (left-avoided m.left (ltb 0 m.left) g))
-              ∙ ap (λ z. only (ltb 0 m.left) (with_lots b m.left) ++ z) i.of-buys;
-          of-sells = both sells ∙ ap (takes rs) (meets-takes (auctioned-names t o b) g e v) ∙ i.of-sells;
+              ∙ ap (λ z. only (ltb 0 m.left) (with_lots b m.left) ++ z) i.of_buys;
+          of_sells = both sells ∙ ap (takes rs) (meets-takes (auctioned-names t o b) g e v) ∙ i.of_sells;
         }
       where
         own_row : b ∷ [] ≡ only (ltb 0 b.lots) (with_lots b b.lots)
@@ -143,12 +143,12 @@ uncross-takes t o (b ∷ buys) sells d e a l =
             uncross-avoids t o (only c (with_lots b n)) buys (meet (λ p. leb p o) (auctioned t o b) b.lots sells).queue (alone-apart n buys d.0 c)
             (alone-apart n _ (absent-served b.number (meets-served g) (flip (b ∷ buys) sells a).0) c)
 
-opening-takes : (t : ℕ) (buys sells : List Standing) → Distinct buys → Distinct sells → Apart buys sells → All (λ x. 1 ≤ x.lots) buys → Both buys sells (opening t buys sells)
+opening-takes : (t : ℕ) (buys sells : List Standing) → Distinct buys → Distinct sells → Apart buys sells → AllByRecursion (λ x. 1 ≤ x.lots) buys → Both buys sells (opening t buys sells)
 unfolding opening
 opening-takes t buys sells d e a l = by (opening_price_lem buys sells)
   where
     by : (z : Option ℕ) → Both buys sells (opening_at t z buys sells)
-    by None = record { of-buys = refl; of-sells = refl }
+    by None = record { of_buys = refl; of_sells = refl }
     by (Some o) = uncross-takes t o buys sells d e a l
 
 opening-avoids : (t : ℕ) (z buys sells : List Standing) → Apart z buys → Apart z sells → Avoids z (trades_of (opening t buys sells).deals)
@@ -188,7 +188,7 @@ pick g = by-ticker (λ u. sum_of (λ t. cond (eqb u t) (g t) 0) tickers ≡ g u)
 pub pick-none : (g : ℕ → ℕ) (u : ℕ) → ticker_known u ≡ false → sum_of (λ t. cond (eqb u t) (g t) 0) tickers ≡ 0
 pick-none g u e = sum_same (λ t. cond (eqb u t) (g t) 0) (λ t. 0) tickers (all-tickers (λ t. cond (eqb u t) (g t) 0 ≡ 0) (λ t k. cond-false (eqb u t) (g t) 0 (ne_eqb u t (λ z. true≢false (sym k ∙ ap ticker_known (sym z) ∙ e)))))
 
-sums-joined : (f : Trade → ℕ) (X : ℕ → List Trade) (u : ℕ) (ts : List ℕ) → ((t : ℕ) → All (λ x. x.ticker ≡ t) (X t)) → sum_of f (kept (λ x. eqb x.ticker u) (joined X ts)) ≡ sum_of (λ t. cond (eqb u t) (sum_of f (X t)) 0) ts
+sums-joined : (f : Trade → ℕ) (X : ℕ → List Trade) (u : ℕ) (ts : List ℕ) → ((t : ℕ) → AllByRecursion (λ x. x.ticker ≡ t) (X t)) → sum_of f (kept (λ x. eqb x.ticker u) (joined X ts)) ≡ sum_of (λ t. cond (eqb u t) (sum_of f (X t)) 0) ts
 sums-joined f X u [] h = refl
 sums-joined f X u (t ∷ ts) h = kept_append (λ x. eqb x.ticker u) f (X t) (joined X ts) ∙ omega (arith, ticker-sum f t u (X t) (h t), sums-joined f X u ts h)
 
@@ -212,8 +212,8 @@ module _ (r : Rule) (w : World) (s : Sound r.step w) (pre : w.session ≡ PreTra
       (absent-here r.step w s u Buy) (All-weaker (Fit r.step w.given) (λ x. 1 ≤ x.lots) (λ x f. f.fewest) (queue w u Buy) (s.fit u Buy))
 
   own-hit : (u : ℕ) (d : Side) → takes (X u) (queue w u d) ≡ queue_of (open_sheet w u) d
-  own-hit u Buy = (own-takes u).of-buys
-  own-hit u Sell = (own-takes u).of-sells
+  own-hit u Buy = (own-takes u).of_buys
+  own-hit u Sell = (own-takes u).of_sells
 
   own-served : (u : ℕ) (d : Side) → Served (queue w u d) (queue_of (open_sheet w u) d)
   own-served u Buy = (opened-at r w s pre u).buys_served
@@ -233,7 +233,7 @@ module _ (r : Rule) (w : World) (s : Sound r.step w) (pre : w.session ≡ PreTra
       by true e = just-once X u (queue w u d) (queue_of (open_sheet w u) d) (own-hit u d) (λ t ne. miss u t d (queue w u d) Served.none ne) (λ t ne. miss u t d (queue_of (open_sheet w u) d) (own-served u d) ne) tickers (alone 1 u e)
       by false e = ap (takes xs) (s.strange u d e) ∙ takes-nothing xs ∙ sym ((open-on r w s pre u).strange d e)
 
-  all-priced : All (λ k. is_some k.bid.price ≡ true) y.standing
+  all-priced : AllByRecursion (λ k. is_some k.bid.price ≡ true) y.standing
   all-priced = All-weaker (λ k. is_some k.bid.price ≡ not (is_post_trading w.session)) (λ k. is_some k.bid.price ≡ true) (λ k f. f ∙ ap (λ (x : Session). not (is_post_trading x)) pre) y.standing tied.form
 
   pub open-queues : (u : ℕ) (d : Side) → Permᴰ (standing_of y' u d) (queue_of (open_sheet w u) d)
@@ -243,7 +243,7 @@ module _ (r : Rule) (w : World) (s : Sound r.step w) (pre : w.session ≡ PreTra
       ∙ ap (takes xs) (same-listed (held_to y') (held_to y) u d y.standing (All-weaker (λ k. is_some k.bid.price ≡ true) (λ k. held_to y' k.bid ≡ held_to y k.bid) (λ k f. held-priced y' y k.bid f) y.standing all-priced))))
       (subst (Permᴰ (takes xs (listed (held_to y) u d y.standing))) (all-takes u d) (takes-perm xs (subst (λ (z : List Standing). Permᴰ z (queue w u d)) (standing-listed y u d) (tied.queues u d))))
 
-  tickers-here : (t : ℕ) → All (λ x. x.ticker ≡ t) (X t)
+  tickers-here : (t : ℕ) → AllByRecursion (λ x. x.ticker ≡ t) (X t)
   tickers-here t = all_map (Payable t) (λ x. x.ticker ≡ t) (λ d. d.trade) (λ d p. p.ticker) (opened_at w t).deals (opened-at r w s pre t).payable
 
   day-sum : (f : Trade → ℕ) (u : ℕ) → sum_of f (kept (λ x. eqb x.ticker u) (y.trades ++ xs)) ≡ sum_of f (kept (λ x. eqb x.ticker u) y.trades) + sum_of f (X u)
@@ -261,8 +261,8 @@ module _ (r : Rule) (w : World) (s : Sound r.step w) (pre : w.session ≡ PreTra
   pub open-traded : (u : ℕ) → lots_of (kept (λ x. eqb x.ticker u) (y.trades ++ xs)) ≡ (open_sheet w u).traded
   open-traded u = day-sum (λ x. x.lots) u ∙ ap (λ (z : ℕ). z + lots_of (X u)) (tied.traded u)
 
-  pub open-known : All (λ z. ticker_known z.bid.ticker ≡ true) (takings xs y.standing)
+  pub open-known : AllByRecursion (λ z. ticker_known z.bid.ticker ≡ true) (takings xs y.standing)
   open-known = all-takings (λ z. ticker_known z.ticker ≡ true) xs y.standing tied.known
 
-  pub open-form : All (λ z. is_some z.bid.price ≡ true) (takings xs y.standing)
+  pub open-form : AllByRecursion (λ z. is_some z.bid.price ≡ true) (takings xs y.standing)
   open-form = all-takings (λ z. is_some z.price ≡ true) xs y.standing all-priced

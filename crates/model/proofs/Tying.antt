@@ -1,6 +1,6 @@
 -- The tally stays tied to the world over every call, and the law follows.
-use Rattle.model.specs.Words.{ℕ, ◌+◌, ◌%◌, ◌≡◌, refl, Bool, true, false, cond, not, ◌&&◌, eqb, List, [], ◌∷◌, ◌++◌, All, sum_of, kept, only, Option, Some, None, is_some, or_else, Permᴰ}
-use Rattle.std.proofs.Common.{sym, ap, ◌∙◌, subst, arith}
+use Rattle.model.specs.Words.{ℕ, refl, Bool, true, false, cond, not, eqb, List, [], AllByRecursion, sum_of, kept, only, Option, Some, None, is_some, or_else, Permᴰ}
+use Rattle.std.proofs.Common.{◌+◌, ◌%◌, ◌≡◌, ◌&&◌, ◌∷◌, ◌++◌, sym, ap, ◌∙◌, subst, arith}
 use mathlib.Core.List.Permᴰ
 use Rattle.std.proofs.lemmas.Bool.Decides.{nat_tests}
 use Rattle.std.proofs.ByRecursion.{All-weaker}
@@ -106,7 +106,7 @@ next-tied r lawful w (Start l) y s e t =
       traded = λ u. refl;
       queues = λ u d. start-queues no-bids (s.shut closed) u d;
       known = t.known;
-      form = subst (All (λ k. is_some k.bid.price ≡ true)) (sym no-bids) tt;
+      form = subst (AllByRecursion (λ k. is_some k.bid.price ≡ true)) (sym no-bids) tt;
     }
   where
     start-queues : y.standing ≡ [] → ((u : ℕ) (d : Side) → queue w u d ≡ []) → (u : ℕ) (d : Side) → Permᴰ (standing_of (fed (Start l) (accepted w (Start l)) [] y) u d) (queue (next w (Start l)) u d)
@@ -247,7 +247,7 @@ module _ (y : Tally) (h a : ℕ) where
   all-zero [] = refl
   all-zero (t ∷ ts) = omega (arith, all-zero ts)
 
-  over-all : (ks : List Kept) → All (λ k. ticker_known k.bid.ticker ≡ true) ks
+  over-all : (ks : List Kept) → AllByRecursion (λ k. ticker_known k.bid.ticker ≡ true) ks
       → sum_of (λ t. sum_of (λ k. cond (belongs (held_to y) t Buy k) (F k) 0) ks + sum_of (λ k. cond (belongs (held_to y) t Sell k) (F k) 0) ks) tickers ≡ sum_of F ks
   over-all [] e = all-zero tickers
   over-all (k ∷ ks) e =
@@ -312,5 +312,5 @@ goes_on r lawful w y b (c ∷ cs) =
 pub going_on : GoingOn
 going_on = record { starts = starts; goes_on = goes_on; lawful = law-holds }
 
-pub every-run : EveryRun 16 12
+pub every-run : EveryRun
 every-run r lawful b ready cs = law-holds r _ _ (goes_on r lawful (made b) (blank b) (starts r b ready) cs)

@@ -1,7 +1,6 @@
 -- One buy of the opening meets the sells: what is traded, what is left for sale at each price, and what stays as it was.
-use Rattle.model.specs.Words.{ℕ, ◌+◌, ◌-◌, ◌≤◌, ◌<◌, ◌≡◌, refl, Bool, true, false, cond, ◌&&◌, leb, ltb, eqb, List, [], ◌∷◌, ◌++◌, map, All, min, Memᴰ}
-use Rattle.std.proofs.Common.{sym, ap, ◌∙◌, subst, arith}
-use mathlib.Core.List.Memᴰ
+use Rattle.model.specs.Words.{ℕ, refl, Bool, true, false, cond, leb, ltb, eqb, List, [], map, AllByRecursion, min, Memᴰ}
+use Rattle.std.proofs.Common.{◌+◌, ◌-◌, ◌≤◌, ◌<◌, ◌≡◌, ◌&&◌, ◌∷◌, ◌++◌, sym, ap, ◌∙◌, subst, arith}
 use Rattle.std.proofs.lemmas.Bool.Decides.{nat_tests}
 use Rattle.std.proofs.ByRecursion.{All-weaker}
 use Rattle.model.specs.Market.{Side, Buy, Sell, Standing}
@@ -35,18 +34,18 @@ names-append side [] ys = refl
 names-append side (x ∷ xs) ys = ap (λ z. number_in side x.trade ∷ z) (names-append side xs ys)
 
 -- all deals of one buy
-pub along_one : (k : ℕ) (ds rs : List Deal) (places : List ℕ) → All (λ d. d.trade.buy ≡ k) ds → Along (map (number_in Buy) (trades_of rs)) places
+pub along_one : (k : ℕ) (ds rs : List Deal) (places : List ℕ) → AllByRecursion (λ d. d.trade.buy ≡ k) ds → Along (map (number_in Buy) (trades_of rs)) places
     → Along (map (number_in Buy) (trades_of (ds ++ rs))) (k ∷ places)
 along_one k [] rs places a h = later h
 along_one k (d ∷ ds) rs places a h =
     subst (λ z. Along (z ∷ map (number_in Buy) (trades_of (ds ++ rs))) (k ∷ places)) (sym a.0) (here (along_one k ds rs places a.1 h))
 
-pub traded_by-one : (n k : ℕ) (ds : List Deal) → All (λ d. d.trade.buy ≡ n) ds → traded_by Buy k (trades_of ds) ≡ cond (eqb n k) (traded ds) 0
+pub traded_by-one : (n k : ℕ) (ds : List Deal) → AllByRecursion (λ d. d.trade.buy ≡ n) ds → traded_by Buy k (trades_of ds) ≡ cond (eqb n k) (traded ds) 0
 traded_by-one n k [] a = grind (arith, nat_tests)
 traded_by-one n k (d ∷ ds) a = let ih = traded_by-one n k ds a.1 in let h = a.0 in grind (arith, nat_tests)
 
 -- ---- demand and supply of ranked queues
-supply-none : (p : ℕ) (q : List Standing) → All (λ x. p < x.price) q → supply q p ≡ 0
+supply-none : (p : ℕ) (q : List Standing) → AllByRecursion (λ x. p < x.price) q → supply q p ≡ 0
 unfolding supply
 supply-none p [] a = refl
 supply-none p (x ∷ q) a = let ih = supply-none p q a.1 in let h = a.0 in grind (arith, nat_tests)
@@ -54,7 +53,7 @@ supply-none p (x ∷ q) a = let ih = supply-none p q a.1 in let h = a.0 in grind
 above : (p : ℕ) (x : Standing) (q : List Standing) → Ranked (by_price Sell) (x ∷ q) → p < x.price → supply q p ≡ 0
 above p x q r h = supply-none p q (All-weaker (λ y. by_price Sell y x ≡ false) (λ y. p < y.price) (λ y e. grind (arith, nat_tests)) q r.0)
 
-demand-none : (p : ℕ) (q : List Standing) → All (λ x. x.price < p) q → demand q p ≡ 0
+demand-none : (p : ℕ) (q : List Standing) → AllByRecursion (λ x. x.price < p) q → demand q p ≡ 0
 unfolding demand
 demand-none p [] a = refl
 demand-none p (x ∷ q) a = let ih = demand-none p q a.1 in let h = a.0 in grind (arith, nat_tests)
@@ -90,7 +89,7 @@ module _ (t o : ℕ) (b : Standing) where
   met-lots (some {n} {x = x} {q = q} e h l) s = grind (arith, nat_tests)
   met-lots (every {n} {x = x} {q = q} {r = r} e h l g) s = let ih = met-lots g s.1 in grind (arith, nat_tests)
 
-pub served-pos : {q r : List Standing} → Served q r → All (λ x. 1 ≤ x.lots) q → All (λ x. 1 ≤ x.lots) r
+pub served-pos : {q r : List Standing} → Served q r → AllByRecursion (λ x. 1 ≤ x.lots) q → AllByRecursion (λ x. 1 ≤ x.lots) r
 served-pos none a = a
 served-pos (part n z l) a = (omega arith, a.1)
 served-pos (whole s) a = served-pos s a.1
@@ -126,7 +125,7 @@ reached-more o b buys sells left s d h =
     }
 
 -- ---- where no sell reaches the price, the buys stay as they are
-pub meet-none : (o : ℕ) (deal : Standing → ℕ → Deal) (n : ℕ) (q : List Standing) → All (λ s. leb s.price o ≡ false) q → meet (λ p. leb p o) deal n q ≡ untouched n q
+pub meet-none : (o : ℕ) (deal : Standing → ℕ → Deal) (n : ℕ) (q : List Standing) → AllByRecursion (λ s. leb s.price o ≡ false) q → meet (λ p. leb p o) deal n q ≡ untouched n q
 unfolding meet
 meet-none o deal n [] a = refl
 meet-none o deal n (x ∷ q) a = let e = a.0 in step (ltb 0 n) (leb x.price o) e

@@ -1,5 +1,6 @@
 -- What is claimed of answers: they tell the trades that stand on the strip.
-use Rattle.model.specs.Words.{ℕ, ◌+◌, ◌≤◌, ◌≡◌, List, length}
+use Rattle.std.specs.Prelude.{◌+◌, ◌≤◌, ◌≡◌}
+use Rattle.model.specs.Words.{ℕ, List, length}
 use Rattle.model.specs.Market.{Session, Bid, Trade, Receipt, Place, Open, Placed, Opened}
 use Rattle.model.specs.Average.{lots_of}
 use Rattle.model.specs.World.{World}

@@ -1,5 +1,6 @@
 -- The average price of a ticker's trades. How it is rounded stands here alone: no proof but that of its own laws opens `average_price_lem`.
-use Rattle.model.specs.Words.{ℕ, ◌*◌, ◌/◌, cond, eqb, List, Option, Some, None, sum_of}
+use Rattle.std.specs.Prelude.{◌*◌, ◌/◌}
+use Rattle.model.specs.Words.{ℕ, cond, eqb, List, Option, Some, None, sum_of}
 use Rattle.model.specs.Market.{Trade}
 
 -- what trades cost together, and their lots

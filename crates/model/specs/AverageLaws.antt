@@ -1,5 +1,6 @@
 -- What is claimed of the average. Proofs elsewhere use these laws and never how it is rounded.
-use Rattle.model.specs.Words.{ℕ, ◌+◌, ◌*◌, ◌≤◌, ◌<◌, ◌≡◌, List, All}
+use Rattle.std.specs.Prelude.{◌+◌, ◌*◌, ◌≤◌, ◌<◌, ◌≡◌}
+use Rattle.model.specs.Words.{ℕ, List, AllByRecursion}
 use Rattle.model.specs.Market.{Trade}
 use Rattle.model.specs.Average.{average_price_lem, cost_of, lots_of}
 
@@ -9,8 +10,8 @@ pub record AverageLaws : Type 0 where
   pub most : (worth lots high : ℕ) → 1 ≤ lots → worth ≤ high * lots → average_price_lem worth lots ≤ high
   pub between : (trades : List Trade) (low high : ℕ)
       → 1 ≤ lots_of trades
-      → All (λ x. low ≤ x.price) trades
-      → All (λ x. x.price ≤ high) trades
+      → AllByRecursion (λ x. low ≤ x.price) trades
+      → AllByRecursion (λ x. x.price ≤ high) trades
       → (low ≤ average_price_lem (cost_of trades) (lots_of trades)) × (average_price_lem (cost_of trades) (lots_of trades) ≤ high)
   -- prices are at least 1, and so is it
   pub positive : (worth lots : ℕ) → 1 ≤ lots → lots ≤ worth → 1 ≤ average_price_lem worth lots

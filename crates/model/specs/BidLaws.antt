@@ -1,5 +1,6 @@
 -- What is claimed of a bid as a whole, in every session.
-use Rattle.model.specs.Words.{ℕ, ◌+◌, ◌*◌, ◌≤◌, ◌<◌, ◌≡◌, ◌≢◌, true, false, [], All, Memᴰ, Some, None, is_some, sum_of}
+use Rattle.std.specs.Prelude.{◌+◌, ◌*◌, ◌≤◌, ◌<◌, ◌≡◌, ◌≢◌}
+use Rattle.model.specs.Words.{ℕ, true, false, [], AllByRecursion, Memᴰ, Some, None, is_some, sum_of}
 use Rattle.model.specs.Market.{Side, Buy, Sell, other, is_pre_trading, is_trading, is_post_trading, Bid, Standing}
 use Rattle.model.specs.Average.{lots_of}
 use Rattle.model.specs.Matching.{Deal}
@@ -37,7 +38,7 @@ pub record BidLaw (least : ℕ) (w : World) (b : Bid) : Type 0 where
   pub unsettled : (quote_of w.listing b.ticker).settlement ≡ 0 → (question w b).settlement ≡ None
   -- and of an opposite bid, whether the holder has one standing on the other side of the ticker
   pub opposite : (x : Standing) → Memᴰ x (queue w b.ticker (other b.side)) → x.holder ≡ b.holder → (question w b).opposite ≡ true
-  pub unopposed : All (λ x. x.holder ≢ b.holder) (queue w b.ticker (other b.side)) → (question w b).opposite ≡ false
+  pub unopposed : AllByRecursion (λ x. x.holder ≢ b.holder) (queue w b.ticker (other b.side)) → (question w b).opposite ≡ false
   -- the block comes out: it is what the deals use up and what the lots left oblige to, no unit more or less
   pub block : owed w b ≡ sum_of (used b.side) (met w b).deals + obligation_of b.side (limit_of w b) (met w b).left
 

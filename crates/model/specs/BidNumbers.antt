@@ -1,5 +1,6 @@
 -- Which numbers a bid on a sound floor can be refused by.
-use Rattle.model.specs.Words.{ℕ, ◌≡◌, true, eqb, List, [], ◌∷◌, any_of}
+use Rattle.std.specs.Prelude.{◌≡◌, ◌∷◌}
+use Rattle.model.specs.Words.{ℕ, true, eqb, List, [], any_of}
 use Rattle.model.specs.Market.{Session, Bid, Place, Refused, Fault}
 use Rattle.model.specs.Numbers.{number_of}
 use Rattle.model.specs.World.{World}

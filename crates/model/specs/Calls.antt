@@ -1,5 +1,6 @@
 -- The calls: what each answers, the trades on its strip, the movements at the register, and the world after it.
-use Rattle.model.specs.Words.{ℕ, ◌+◌, cond, eqb, List, [], ◌++◌, joined, length, Option, Some, None, sum_of}
+use Rattle.std.specs.Prelude.{◌+◌, ◌++◌}
+use Rattle.model.specs.Words.{ℕ, cond, eqb, List, [], joined, length, Option, Some, None, sum_of}
 use Rattle.model.specs.Market.{Buy, Sell, Session, Closed, PreTrading, Trading, PostTrading, is_trading, tickers, Bid, Standing, Trade, Listing, Receipt}
 use Rattle.model.specs.Market.{Call, Start, Deposit, Withdraw, Place, Cancel, Open, EndTrading, EndPostTrading}
 use Rattle.model.specs.Market.{Answer, Done, Placed, Cancelled, Opened, Refused, Fault, Cause, CallKind}

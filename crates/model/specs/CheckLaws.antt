@@ -1,5 +1,5 @@
 -- What is claimed of the checks: exactly one thing becomes of a call, and a refusal alters nothing.
-use Rattle.model.specs.Words.{ℕ, ◌≡◌, ◌≢◌, true, eqb, List, [], ◌∷◌, ◌++◌, All, Some, None, any_of}
+use Rattle.model.specs.Words.{ℕ, true, eqb, List, [], AllByRecursion, Some, None, any_of}
 use Rattle.model.specs.Market.{Call, Start, Deposit, Withdraw, Place, Cancel, Open, EndTrading, EndPostTrading, Cause, Refused, Fault}
 use Rattle.model.specs.Numbers.{number_of}
 use Rattle.model.specs.World.{World}
@@ -7,11 +7,11 @@ use Rattle.model.specs.Checks.{Check, checks}
 use Rattle.model.specs.Movements.{moves_made}
 use Rattle.model.specs.Calls.{answer, trades, moves, after, accepted, trades_made, next, fault_of_lem}
 use Rattle.rules.specs.Rules.{Rule}
-use Rattle.std.specs.Prelude.{◌⊎◌}
+use Rattle.std.specs.Prelude.{◌≡◌, ◌≢◌, ◌∷◌, ◌++◌, ◌⊎◌}
 
 -- registered: every check is passed, and the call does what the definitions of an accepted call say
 pub record Registered (r : Rule) (w : World) (c : Call) : Type 0 where
-  pub passed : All (λ x. x ≡ None) (checks r w c)
+  pub passed : AllByRecursion (λ x. x ≡ None) (checks r w c)
   pub answers : answer r w c ≡ accepted w c
   pub trades : trades r w c ≡ trades_made w c
   pub moves : moves r w c ≡ moves_made w c
@@ -23,7 +23,7 @@ pub record RefusedByFirst (r : Rule) (w : World) (c : Call) : Type 0 where
   pub front : List Check
   pub behind : List Check
   pub order : checks r w c ≡ front ++ Some cause ∷ behind
-  pub passed : All (λ x. x ≡ None) front
+  pub passed : AllByRecursion (λ x. x ≡ None) front
   pub answers : answer r w c ≡ Refused (fault_of_lem c cause)
   pub trades : trades r w c ≡ []
   pub moves : moves r w c ≡ []

@@ -1,5 +1,6 @@
 -- The checks of each call in their order. The first that fails refuses the call; a call that passes all is accepted.
-use Rattle.model.specs.Words.{ℕ, Bool, true, false, cond, not, ◌&&◌, ◌||◌, leb, ltb, eqb, List, [], ◌∷◌, ◌++◌, length, Option, Some, None, all_of, any_of, is_some}
+use Rattle.std.specs.Prelude.{◌&&◌, ◌||◌, ◌∷◌, ◌++◌}
+use Rattle.model.specs.Words.{ℕ, Bool, true, false, cond, not, leb, ltb, eqb, List, [], length, Option, Some, None, all_of, any_of, is_some}
 use Rattle.model.specs.Market.{Session, by_session, is_closed, is_pre_trading, is_trading, is_post_trading, serves, Buy, Sell, Bid, Listing, Cause, ByFloor, ByRule, ByRegister}
 use Rattle.model.specs.Market.{FloorRefusal, BadListing, SomethingBlocked, WrongSession, ShortStrip, NoHolderOrTicker, BeyondLimits}
 use Rattle.model.specs.Market.{FormNotTaken, NoAverage, NumbersSpent, QueueFull, NoSuchBid, RuleRefusal, RegisterFault}

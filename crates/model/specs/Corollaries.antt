@@ -1,5 +1,6 @@
 -- What follows of the law and the invariant, as a holder or a clearing house would ask it.
-use Rattle.model.specs.Words.{ℕ, suc, ◌+◌, ◌*◌, ◌≤◌, ◌<◌, ◌≡◌, ◌≢◌, Bool, true, false, List, [], ◌∷◌, ◌++◌, All}
+use Rattle.std.specs.Prelude.{◌+◌, ◌*◌, ◌≤◌, ◌<◌, ◌≡◌, ◌≢◌, ◌∷◌, ◌++◌}
+use Rattle.model.specs.Words.{ℕ, suc, Bool, true, false, List, [], AllByRecursion}
 use Rattle.model.specs.Market.{Call, Start, Deposit, Withdraw, Place, Cancel, Open, EndTrading, EndPostTrading, Session, Bid, Trade, Listing, Receipt, Done, Placed}
 use Rattle.model.specs.Listings.{quote_of}
 use Rattle.model.specs.World.{World, made}
@@ -57,7 +58,7 @@ NumbersApart least =
     (r : Rule) (w : World) (cs : List Call) (front middle behind : List Entry) (d e : Entry) (x y : Receipt)
     → log r w cs ≡ front ++ d ∷ (middle ++ e ∷ behind)
     → d.answer ≡ Placed x
-    → All (λ n. (l : Listing) → n.call ≡ Start l → is_refused n.answer ≡ true) middle
+    → AllByRecursion (λ n. (l : Listing) → n.call ≡ Start l → is_refused n.answer ≡ true) middle
     → e.answer ≡ Placed y
     → x.number + least ≤ y.number
 

@@ -1,5 +1,6 @@
 -- The checked figures, as one table. The rules' figures stand in it too.
-use Rattle.model.specs.Words.{ℕ, ◌-◌, ◌*◌, ◌≡◌, true, false, List, [], ◌∷◌, ◌++◌, map, sum_of, All, Option, Some, None}
+use Rattle.std.specs.Prelude.{◌-◌, ◌*◌, ◌≡◌, ◌∷◌, ◌++◌}
+use Rattle.model.specs.Words.{ℕ, true, false, List, [], map, sum_of, AllByRecursion, Option, Some, None}
 use Rattle.model.specs.Market.{Buy, Trading, Bid, Standing, Trade}
 use Rattle.model.specs.Average.{cost_of, lots_of, average}
 use Rattle.model.specs.Matching.{Deal, encounter, trades_of, to_block}
@@ -77,4 +78,4 @@ figures = map (λ r. row (r.found ∷ []) (r.figure ∷ [])) rule.figures ++ mar
 
 -- each row's figure is what the definitions give
 abbrev pub FiguresHold : Type 0
-FiguresHold = All (λ r. r.found ≡ r.figure) figures
+FiguresHold = AllByRecursion (λ r. r.found ≡ r.figure) figures

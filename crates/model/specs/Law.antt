@@ -1,5 +1,6 @@
 -- The law of a floor over every list of calls: its accounts and its queues are those that the tally of the calls gives by itself.
-use Rattle.model.specs.Words.{ℕ, ◌+◌, ◌%◌, ◌≤◌, ◌<◌, ◌≡◌, true, not, eqb, List, All, Permᴰ, kept, is_some, sum_of}
+use Rattle.std.specs.Prelude.{◌+◌, ◌%◌, ◌≤◌, ◌<◌, ◌≡◌}
+use Rattle.model.specs.Words.{ℕ, true, not, eqb, List, AllByRecursion, Permᴰ, kept, is_some, sum_of}
 use Rattle.model.specs.Market.{Side, is_trading, is_post_trading, ticker_known, Call}
 use Rattle.model.specs.Queues.{before}
 use Rattle.model.specs.Average.{cost_of, lots_of}
@@ -11,23 +12,18 @@ use Rattle.register.specs.Books.{Book, total, most_amount}
 use Rattle.ranking.specs.Ranks.{Ranked}
 use Rattle.rules.specs.Rules.{Rule, Lawful}
 
--- of so many holders and assets
-pub record LawOf (holders assets : ℕ) (r : Rule) (w : World) (y : Tally) : Type 0 where
+pub record Law (r : Rule) (w : World) (y : Tally) : Type 0 where
   -- what a holder has, free and blocked together, is what deposits, withdrawals and trades left to him
-  pub totals : (h a : ℕ) → h < holders → a < assets → w.book.free h a + w.book.blocked h a ≡ y.sums h a
+  pub totals : (h a : ℕ) → h < 16 → a < 12 → w.book.free h a + w.book.blocked h a ≡ y.sums h a
   -- what he has blocked is what his standing bids oblige him to, no more and no less
-  pub obliged : (h a : ℕ) → h < holders → a < assets → w.book.blocked h a ≡ sum_of (λ k. obliges y k h a) y.standing
+  pub obliged : (h a : ℕ) → h < 16 → a < 12 → w.book.blocked h a ≡ sum_of (λ k. obliges y k h a) y.standing
   -- each queue holds exactly the standing bids of its ticker and side, in ranking order
   pub queues : (t : ℕ) (side : Side) → Permᴰ (standing_of y t side) (queue w t side)
   pub ranked : (t : ℕ) (side : Side) → Ranked (before w.session side) (queue w t side)
   -- each standing bid is in whole steps of the rule
-  pub steps : (t : ℕ) (side : Side) → All (λ x. x.lots % r.step ≡ 0) (standing_of y t side)
+  pub steps : (t : ℕ) (side : Side) → AllByRecursion (λ x. x.lots % r.step ≡ 0) (standing_of y t side)
   -- while trading runs, every standing buy is priced below every standing sell of its ticker
   pub uncrossed : y.running ≡ true → (t : ℕ) → Uncrossed w t
-
--- of all that there are
-abbrev pub Law : Rule → World → Tally → Type 0
-Law r w y = LawOf 16 12 r w y
 
 -- a register that a floor may be made over: nothing is blocked, and no asset's total passes the limit
 pub record Ready (b : Book) : Type 0 where
@@ -35,20 +31,20 @@ pub record Ready (b : Book) : Type 0 where
   pub bounded : (a : ℕ) → a < 12 → total b a ≤ most_amount
 
 -- for every rule that keeps its law, every ready register and every list of calls, the empty one too
-abbrev pub EveryRun : ℕ → ℕ → Type 0
-EveryRun holders assets =
+abbrev pub EveryRun : Type 0
+EveryRun =
     (r : Rule) → Lawful r → (b : Book) → Ready b → (cs : List Call)
-    → LawOf holders assets r (run r (made b) cs) (tally_of (blank b) (log r (made b) cs))
+    → Law r (run r (made b) cs) (tally_of (blank b) (log r (made b) cs))
 
 -- ---- the accounts alone, with what is blocked read off the queues
-pub record Accounts (holders assets : ℕ) (w : World) (y : Tally) : Type 0 where
-  pub totals : (h a : ℕ) → h < holders → a < assets → w.book.free h a + w.book.blocked h a ≡ y.sums h a
-  pub obliged : (h a : ℕ) → h < holders → a < assets → w.book.blocked h a ≡ all_owing w h a
+pub record Accounts (w : World) (y : Tally) : Type 0 where
+  pub totals : (h a : ℕ) → h < 16 → a < 12 → w.book.free h a + w.book.blocked h a ≡ y.sums h a
+  pub obliged : (h a : ℕ) → h < 16 → a < 12 → w.book.blocked h a ≡ all_owing w h a
 
-abbrev pub AccountsComeOut : ℕ → ℕ → Type 0
-AccountsComeOut holders assets =
+abbrev pub AccountsComeOut : Type 0
+AccountsComeOut =
     (r : Rule) → Lawful r → (b : Book) → Ready b → (cs : List Call)
-    → Accounts holders assets (run r (made b) cs) (tally_of (blank b) (log r (made b) cs))
+    → Accounts (run r (made b) cs) (tally_of (blank b) (log r (made b) cs))
 
 -- ---- the same as a step
 -- how a tally is tied to a world: from this the law follows, and every call keeps it
@@ -62,8 +58,8 @@ pub record Tied (w : World) (y : Tally) : Type 0 where
   pub traded : (t : ℕ) → lots_of (kept (λ x. eqb x.ticker t) y.trades) ≡ (w.sheets t).traded
   pub queues : (t : ℕ) (side : Side) → Permᴰ (standing_of y t side) (queue w t side)
   -- standing bids are of known tickers, and have a price of their own but for post-trading, where none has
-  pub known : All (λ k. ticker_known k.bid.ticker ≡ true) y.standing
-  pub form : All (λ k. is_some k.bid.price ≡ not (is_post_trading w.session)) y.standing
+  pub known : AllByRecursion (λ k. ticker_known k.bid.ticker ≡ true) y.standing
+  pub form : AllByRecursion (λ k. is_some k.bid.price ≡ not (is_post_trading w.session)) y.standing
 
 -- a floor and the tally of its calls so far go on together, whatever is called next
 pub record Together (r : Rule) (w : World) (y : Tally) : Type 0 where

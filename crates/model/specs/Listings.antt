@@ -1,5 +1,6 @@
 -- The listing of a day: each ticker's currency and settlement price.
-use Rattle.model.specs.Words.{ℕ, ◌-◌, cond, eqb, get_or, replicate, Option, Some, None}
+use Rattle.std.specs.Prelude.{◌-◌}
+use Rattle.model.specs.Words.{ℕ, cond, eqb, get_or, replicate, Option, Some, None}
 use Rattle.model.specs.Market.{Side, Buy, Sell, Quote, Listing}
 
 abbrev pub no_quote : Quote

@@ -1,10 +1,10 @@
 -- What is claimed of looking at a floor: what there is is answered as it is, and what there is not is refused.
-use Rattle.model.specs.Words.{ℕ, ◌≤◌, ◌<◌, ◌≡◌}
+use Rattle.model.specs.Words.{ℕ}
 use Rattle.model.specs.Market.{Side, Fault}
 use Rattle.model.specs.Numbers.{number_of}
 use Rattle.model.specs.World.{World, queue, average_of}
 use Rattle.model.specs.Looks.{look_account, look_queue, look_average}
-use Rattle.std.specs.Prelude.{Ok, Err, Result}
+use Rattle.std.specs.Prelude.{◌≤◌, ◌<◌, ◌≡◌, Ok, Err, Result}
 
 -- refused by a number, with the ticker as it was given
 abbrev pub RefusedBy : {X : Type 0} → ℕ → ℕ → Result X Fault → Type 0

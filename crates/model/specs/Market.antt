@@ -1,5 +1,6 @@
 -- The declared words of the market, with the register's and the rules', and the smallest questions about them.
-use Rattle.model.specs.Words.{ℕ, Bool, true, false, ◌&&◌, leb, List, [], ◌∷◌}
+use Rattle.std.specs.Prelude.{◌&&◌, ◌∷◌}
+use Rattle.model.specs.Words.{ℕ, Bool, true, false, leb, List, []}
 pub use Rattle.register.specs.declared.faults.RegisterFault.{RegisterFault}
 pub use Rattle.rules.specs.declared.bid.Side.{Side}
 pub use Rattle.rules.specs.declared.bid.Side.TheVariants.{Buy, Sell}

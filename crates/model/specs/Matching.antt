@@ -1,5 +1,6 @@
 -- Matching: which bids a newcomer crosses, what it trades with them, and what is left of both.
-use Rattle.model.specs.Words.{ℕ, ◌-◌, Bool, true, cond, not, ◌&&◌, leb, ltb, List, [], ◌∷◌, map, Option, Some, None, is_some, or_else}
+use Rattle.std.specs.Prelude.{◌-◌, ◌&&◌, ◌∷◌}
+use Rattle.model.specs.Words.{ℕ, Bool, true, cond, not, leb, ltb, List, [], map, Option, Some, None, is_some, or_else}
 use Rattle.model.specs.Market.{Side, Buy, Sell, Session, by_session, Bid, Standing, Trade}
 use Rattle.model.specs.Queues.{with_lots}
 use Rattle.model.specs.Average.{cost_of}

@@ -1,5 +1,6 @@
 -- What is claimed of matching.
-use Rattle.model.specs.Words.{ℕ, ◌+◌, ◌≤◌, ◌<◌, ◌≡◌, true, false, List, [], length, All, map, Memᴰ, Option}
+use Rattle.std.specs.Prelude.{◌+◌, ◌≤◌, ◌<◌, ◌≡◌}
+use Rattle.model.specs.Words.{ℕ, true, false, List, [], length, AllByRecursion, map, Memᴰ, Option}
 use Rattle.model.specs.Market.{Side, other, Session, Bid, Standing, Trade}
 use Rattle.model.specs.Queues.{by_price, before}
 use Rattle.model.specs.Average.{lots_of}
@@ -38,10 +39,10 @@ pub record Matched (least number : ℕ) (b : Bid) (limit : Option ℕ) (queue : 
   pub own : lots_of (trades_of m.deals) + m.left ≡ b.lots
   pub theirs : (k : ℕ) → left_of k queue ≡ traded_by (other b.side) k (trades_of m.deals) + left_of k m.queue
   -- no trade is worse than either side's price, and each is the newcomer's
-  pub fair : All (Fair b.side limit queue) (trades_of m.deals)
-  pub mine : All (Own number b) (trades_of m.deals)
+  pub fair : AllByRecursion (Fair b.side limit queue) (trades_of m.deals)
+  pub mine : AllByRecursion (Own number b) (trades_of m.deals)
   -- the buyer has blocked at least the price
-  pub covered : All (λ d. d.trade.price ≤ d.held) m.deals
+  pub covered : AllByRecursion (λ d. d.trade.price ≤ d.held) m.deals
   -- price and time: the trades go along the queue and never back, and it is served from the front
   pub order : Along (map (number_in (other b.side)) (trades_of m.deals)) (numbers_of queue)
   pub served : Served queue m.queue
@@ -49,7 +50,7 @@ pub record Matched (least number : ℕ) (b : Bid) (limit : Option ℕ) (queue : 
   pub few : length m.deals ≤ length queue
   -- a ranked queue stays ranked, and where the newcomer has at least so many lots left nothing that it crosses is left
   pub ranked : (session : Session) (side : Side) → Ranked (before session side) queue → Ranked (before session side) m.queue
-  pub done : Ranked (by_price (other b.side)) queue → least ≤ m.left → All (λ x. crosses b.side limit x.price ≡ false) m.queue
+  pub done : Ranked (by_price (other b.side)) queue → least ≤ m.left → AllByRecursion (λ x. crosses b.side limit x.price ≡ false) m.queue
 
 abbrev pub MatchingIsRight : ℕ → Type 0
 MatchingIsRight least = (number : ℕ) (b : Bid) (limit : Option ℕ) (queue : List Standing) → Matched least number b limit queue (meeting number b limit queue)

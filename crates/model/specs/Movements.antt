@@ -1,5 +1,6 @@
 -- What an accepted call moves at the register, as a list of movements in their order.
-use Rattle.model.specs.Words.{ℕ, ◌-◌, ◌*◌, ◌≡◌, ltb, eqb, List, [], ◌∷◌, ◌++◌, map, joined, Some, None, only, kept}
+use Rattle.std.specs.Prelude.{◌-◌, ◌*◌, ◌≡◌, ◌∷◌, ◌++◌}
+use Rattle.model.specs.Words.{ℕ, ltb, eqb, List, [], map, joined, Some, None, only, kept}
 use Rattle.model.specs.Market.{Side, Buy, Sell, Bid, Standing, Listing, tickers}
 use Rattle.model.specs.Market.{Call, Start, Deposit, Withdraw, Place, Cancel, Open, EndTrading, EndPostTrading}
 use Rattle.model.specs.Queues.{named}

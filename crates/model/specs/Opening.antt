@@ -1,5 +1,6 @@
 -- The opening auction of one ticker.
-use Rattle.model.specs.Words.{ℕ, ◌+◌, ◌-◌, Bool, cond, ◌&&◌, ◌||◌, leb, ltb, eqb, List, [], ◌∷◌, ◌++◌, map, Option, Some, None, only, sum_of, min}
+use Rattle.std.specs.Prelude.{◌+◌, ◌-◌, ◌&&◌, ◌||◌, ◌∷◌, ◌++◌}
+use Rattle.model.specs.Words.{ℕ, Bool, cond, leb, ltb, eqb, List, [], map, Option, Some, None, only, sum_of, min}
 use Rattle.model.specs.Market.{Standing}
 use Rattle.model.specs.Queues.{with_lots}
 use Rattle.model.specs.Matching.{Deal, meet}

@@ -1,5 +1,6 @@
 -- What is claimed of the opening.
-use Rattle.model.specs.Words.{ℕ, ◌+◌, ◌≤◌, ◌<◌, ◌≡◌, List, length, All, map, Memᴰ, Some}
+use Rattle.std.specs.Prelude.{◌+◌, ◌≤◌, ◌<◌, ◌≡◌}
+use Rattle.model.specs.Words.{ℕ, List, length, AllByRecursion, map, Memᴰ, Some}
 use Rattle.model.specs.Market.{Side, Buy, Sell, Standing, Trade, Open}
 use Rattle.model.specs.Queues.{by_price}
 use Rattle.model.specs.Average.{lots_of}
@@ -45,9 +46,9 @@ Conserved side trades before after = (k : ℕ) → left_of k before ≡ traded_b
 pub record OpenedWell (t o : ℕ) (buys sells : List Standing) (r : Opened) : Type 0 where
   -- exactly the smaller of demand and supply is traded, all of this ticker and at this price
   pub smaller : lots_of (trades_of r.deals) ≡ tradable buys sells o
-  pub price : All (λ x. (x.ticker ≡ t) × (x.price ≡ o)) (trades_of r.deals)
+  pub price : AllByRecursion (λ x. (x.ticker ≡ t) × (x.price ≡ o)) (trades_of r.deals)
   -- between buys at or above it and sells at or below it
-  pub reached : All (Reached o buys sells) r.deals
+  pub reached : AllByRecursion (Reached o buys sells) r.deals
   -- in ranking order: the trades go along both queues and never back, and both are served from the front
   pub buys_order : Along (map (λ x. x.buy) (trades_of r.deals)) (numbers_of buys)
   pub sells_order : Along (map (λ x. x.sell) (trades_of r.deals)) (numbers_of sells)
@@ -59,7 +60,7 @@ pub record OpenedWell (t o : ℕ) (buys sells : List Standing) (r : Opened) : Ty
   pub buys_conserved : Conserved Buy (trades_of r.deals) buys r.buys
   pub sells_conserved : Conserved Sell (trades_of r.deals) sells r.sells
   -- afterwards every buy is priced below every sell
-  pub apart : All (λ b. All (λ s. b.price < s.price) r.sells) r.buys
+  pub apart : AllByRecursion (λ b. AllByRecursion (λ s. b.price < s.price) r.sells) r.buys
 
 -- of ranked queues of bids that have at least so many lots
 abbrev pub OpeningClears : ℕ → Type 0
@@ -67,8 +68,8 @@ OpeningClears least =
     (t o : ℕ) (buys sells : List Standing)
     → Ranked (by_price Buy) buys
     → Ranked (by_price Sell) sells
-    → All (λ x. least ≤ x.lots) buys
-    → All (λ x. least ≤ x.lots) sells
+    → AllByRecursion (λ x. least ≤ x.lots) buys
+    → AllByRecursion (λ x. least ≤ x.lots) sells
     → opening_price_lem buys sells ≡ Some o
     → OpenedWell t o buys sells (opening t buys sells)
 

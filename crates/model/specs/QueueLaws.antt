@@ -1,5 +1,6 @@
 -- What is claimed of the queues of a sound floor, and of a cancellation, as a holder would ask it.
-use Rattle.model.specs.Words.{ℕ, ◌+◌, ◌≤◌, ◌≡◌, ◌≢◌, List, ◌∷◌, ◌++◌}
+use Rattle.std.specs.Prelude.{◌+◌, ◌≤◌, ◌≡◌, ◌≢◌, ◌∷◌, ◌++◌}
+use Rattle.model.specs.Words.{ℕ, List}
 use Rattle.model.specs.Market.{Side, Buy, Sell, other, Session, Standing, Cancel, Cancelled}
 use Rattle.model.specs.World.{World, queue}
 use Rattle.model.specs.Calls.{answer, after}

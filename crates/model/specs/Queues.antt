@@ -1,5 +1,6 @@
 -- Queues: who is served first, the best price, and the bid that a holder names.
-use Rattle.model.specs.Words.{ℕ, Bool, not, ◌&&◌, ◌||◌, ltb, eqb, List, [], ◌∷◌, Option, Some, None, kept}
+use Rattle.std.specs.Prelude.{◌&&◌, ◌||◌, ◌∷◌}
+use Rattle.model.specs.Words.{ℕ, Bool, not, ltb, eqb, List, [], Option, Some, None, kept}
 use Rattle.model.specs.Market.{Side, Buy, Sell, Session, by_session, Standing}
 
 -- ---- the rankings: whether the first of two bids is served before the second

@@ -1,5 +1,6 @@
 -- Lists of calls: the world after them, and the log of what was called, answered and traded.
-use Rattle.model.specs.Words.{List, [], ◌∷◌}
+use Rattle.std.specs.Prelude.{◌∷◌}
+use Rattle.model.specs.Words.{List, []}
 use Rattle.model.specs.Market.{Call}
 use Rattle.model.specs.World.{World}
 use Rattle.model.specs.Calls.{answer, trades, after}

@@ -1,5 +1,6 @@
 -- How trades serve a queue: words that the laws of matching and of the opening share.
-use Rattle.model.specs.Words.{ℕ, ◌<◌, cond, eqb, List, [], ◌∷◌, map, sum_of}
+use Rattle.std.specs.Prelude.{◌<◌, ◌∷◌}
+use Rattle.model.specs.Words.{ℕ, cond, eqb, List, [], map, sum_of}
 use Rattle.model.specs.Market.{Side, Buy, Sell, Standing, Trade}
 use Rattle.model.specs.Queues.{with_lots}
 

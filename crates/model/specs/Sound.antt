@@ -1,5 +1,6 @@
 -- What holds of the world between any two calls: the queues, the book and the numbers of the day.
-use Rattle.model.specs.Words.{ℕ, ◌+◌, ◌*◌, ◌%◌, ◌≤◌, ◌<◌, ◌≡◌, true, false, cond, eqb, List, [], length, All, Some, sum_of}
+use Rattle.std.specs.Prelude.{◌+◌, ◌*◌, ◌%◌, ◌≤◌, ◌<◌, ◌≡◌}
+use Rattle.model.specs.Words.{ℕ, true, false, cond, eqb, List, [], length, AllByRecursion, Some, sum_of}
 use Rattle.model.specs.Market.{Side, Buy, Sell, Standing, Listing, is_closed, is_trading, is_post_trading, most_numbers, queue_places, ticker_known, tickers}
 use Rattle.model.specs.Queues.{before}
 use Rattle.model.specs.Listings.{asset_of_lem}
@@ -52,12 +53,12 @@ standing_lots queue = sum_of (λ x. x.lots) queue
 
 -- every buy of a ticker is priced below every sell of it
 abbrev pub Uncrossed : World → ℕ → Type 0
-Uncrossed w t = All (λ b. All (λ s. b.price < s.price) (queue w t Sell)) (queue w t Buy)
+Uncrossed w t = AllByRecursion (λ b. AllByRecursion (λ s. b.price < s.price) (queue w t Sell)) (queue w t Buy)
 
 -- ---- the invariant, under a rule's step
 pub record Sound (step : ℕ) (w : World) : Type 0 where
   -- the queues: fit records, at most 64, ranked, each number standing once at most; none of an unknown ticker
-  pub fit : (t : ℕ) (side : Side) → All (Fit step w.given) (queue w t side)
+  pub fit : (t : ℕ) (side : Side) → AllByRecursion (Fit step w.given) (queue w t side)
   pub places : (t : ℕ) (side : Side) → length (queue w t side) ≤ queue_places
   pub ranked : (t : ℕ) (side : Side) → Ranked (before w.session side) (queue w t side)
   pub once : (number : ℕ) → times w number ≤ 1
@@ -69,7 +70,7 @@ pub record Sound (step : ℕ) (w : World) : Type 0 where
   pub backed : is_closed w.session ≡ false → (h a : ℕ) → h < 16 → a < 12 → w.book.blocked h a ≡ all_owing w h a
   -- in trading nothing that could trade is left standing; in post-trading all stand at the average
   pub uncrossed : is_trading w.session ≡ true → (t : ℕ) → Uncrossed w t
-  pub averaged : is_post_trading w.session ≡ true → (t : ℕ) (side : Side) → All (λ x. average_of (w.sheets t) ≡ Some x.price) (queue w t side)
+  pub averaged : is_post_trading w.session ≡ true → (t : ℕ) (side : Side) → AllByRecursion (λ x. average_of (w.sheets t) ≡ Some x.price) (queue w t side)
   -- the numbers of the day; each lot bought or still wanted came with a number
   pub given : w.given ≤ most_numbers
   pub cheapest : (t : ℕ) → (w.sheets t).traded ≤ (w.sheets t).worth

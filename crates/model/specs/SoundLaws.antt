@@ -1,5 +1,5 @@
 -- What is claimed of the invariant: every made floor has it, every call keeps it, and what a call does stays within its means.
-use Rattle.model.specs.Words.{ℕ, ◌≤◌, ◌<◌, List, length, All}
+use Rattle.model.specs.Words.{ℕ, List, length, AllByRecursion}
 use Rattle.model.specs.Market.{Side, Call, Start, Deposit, Withdraw, Place, Cancel, Open, EndTrading, EndPostTrading}
 use Rattle.model.specs.World.{World, made, queue}
 use Rattle.model.specs.Movements.{Granted}
@@ -10,7 +10,7 @@ use Rattle.register.specs.Books.{Book}
 use Rattle.register.specs.Moves as move
 use Rattle.register.specs.Moves.{Move}
 use Rattle.rules.specs.Rules.{Rule, Lawful}
-use Rattle.std.specs.Prelude.{◌^◌}
+use Rattle.std.specs.Prelude.{◌≤◌, ◌<◌, ◌^◌}
 
 -- every call keeps it, whatever is asked, accepted or refused; so it holds after every list of calls
 abbrev pub CallsKeepSound : Type 0
@@ -41,7 +41,7 @@ OfAccounts holders assets (move.Pay h a n payee) = (h < holders) × (a < assets)
 
 abbrev pub MovementsNameAccounts : ℕ → ℕ → Type 0
 MovementsNameAccounts holders assets =
-    (r : Rule) → Lawful r → (w : World) (c : Call) → Sound r.step w → All (OfAccounts holders assets) (moves r w c)
+    (r : Rule) → Lawful r → (w : World) (c : Call) → Sound r.step w → AllByRecursion (OfAccounts holders assets) (moves r w c)
 
 -- the records of the strip that a call brings
 abbrev pub room_of_lem : Call → ℕ

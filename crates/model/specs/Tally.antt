@@ -1,5 +1,6 @@
 -- The tally: what the calls, their answers and their trades say by themselves of who has what and which bids stand. It sees no world.
-use Rattle.model.specs.Words.{ℕ, ◌-◌, ◌*◌, Bool, true, false, cond, not, ◌&&◌, ◌||◌, ltb, eqb, List, [], ◌∷◌, ◌++◌, map, joined, Option, Some, None, only, kept, or_else}
+use Rattle.std.specs.Prelude.{◌-◌, ◌*◌, ◌&&◌, ◌||◌, ◌∷◌, ◌++◌}
+use Rattle.model.specs.Words.{ℕ, Bool, true, false, cond, not, ltb, eqb, List, [], map, joined, Option, Some, None, only, kept, or_else}
 use Rattle.model.specs.Market.{Side, same_side, Bid, Standing, Trade, Listing, Call, Start, Deposit, Withdraw, Place, Cancel, Open, EndTrading, EndPostTrading}
 use Rattle.model.specs.Market.{Answer, Done, Placed, Cancelled, Opened, Refused}
 use Rattle.model.specs.Average.{average, cost_of, lots_of}

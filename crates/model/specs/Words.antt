@@ -1,7 +1,7 @@
 -- Library words that the other files use, and some small ones on lists and options.
 pub use Rattle.std.specs.Prelude.{◌≡◌, refl, Bool, true, false, cond, not, ◌&&◌, ◌||◌, ◌≢◌, ℕ, zero, suc, ◌+◌, ◌-◌, ◌*◌, ◌/◌, ◌%◌, ◌≤◌, ◌<◌, min, leb, ltb, eqb, length, get_or, replicate}
 pub use mathlib.Core.List.{List, [], ◌∷◌, ◌++◌, map, Memᴰ, Permᴰ}
-pub use Rattle.std.specs.List.{flat_map as joined, AllByRecursion as All}
+pub use Rattle.std.specs.List.{flat_map as joined, AllByRecursion}
 pub use Rattle.std.specs.declared.option.Option.{Option}
 pub use Rattle.std.specs.declared.option.Option.TheVariants.{Some, None}
 

@@ -36,7 +36,7 @@ pub fn numbers_fit() -> u8
 // After every list of calls the accounts of 16 holders and 12 assets come out: what each holder has is the tally's sum, and what he has
 // blocked is what the bids in the queues oblige him to.
 pub fn accounts_come_out() -> u8
-    ensures { AccountsComeOut 16 12 }
+    ensures { AccountsComeOut }
 {
     0
 }
@@ -44,7 +44,7 @@ pub fn accounts_come_out() -> u8
 // The law over every list of calls: accounts, blocked amounts and queues are those of the tally; and it goes on from any floor and tally
 // that went together so far.
 pub fn every_run_is_lawful() -> u8
-    ensures run { EveryRun 16 12 }
+    ensures run { EveryRun }
     ensures step { GoingOn }
 {
     0

@@ -1,12 +1,11 @@
 -- The bid of a holder and number: where it is found, and what is left without it. Assumes nothing.
-use Rattle.std.proofs.Common.{◌≡◌, ℕ, zero, suc, ◌<◌, ◌≤◌, Bool, true, false, cond, ltb, List, [], ◌∷◌, length, get_or, drop, Some, None, Option, sym, refl, ap, ◌∙◌, arith}
+use Rattle.std.proofs.Common.{◌≡◌, ℕ, suc, ◌<◌, ◌≤◌, Bool, true, false, cond, ltb, List, [], ◌∷◌, length, get_or, Some, None, Option, refl, ap, ◌∙◌, arith}
 use Rattle.std.specs.List.{remove}
 use Rattle.std.proofs.lemmas.Bool.Decides.{nat_tests}
-use Rattle.std.proofs.lemmas.Bool.{cond_both}
 use Rattle.model.specs.declared.words.Standing.{Standing}
 use Rattle.model.specs.Queues.{named}
 use Rattle.ranking.specs.Ranks.{first_place}
-use Rattle.rules.specs.declared.bid.Side.TheVariants.{Buy, Sell}
+use Rattle.rules.specs.declared.bid.Side.TheVariants.{Sell}
 use Rattle.queues.specs.Entries.{first_of, place_named_lem, entry_named, less_named}
 use Rattle.queues.specs.Sheets.{or_sell, unless_buy}
 

@@ -1,6 +1,6 @@
 -- The first entry that passes a test, after an insertion, a removal or a change of one entry. Assumes nothing.
 use Rattle.std.proofs.Common.{◌≡◌, ℕ, zero, suc, ◌<◌, Bool, true, false, cond, List, [], ◌∷◌, length, get_or, set, sym, refl, ap, ◌∙◌, ⊎_elim, arith}
-use Rattle.std.specs.List.{remove, AllByRecursion as All}
+use Rattle.std.specs.List.{remove, AllByRecursion}
 use Rattle.std.proofs.ByRecursion.{All-weaker, All-get_or}
 use Rattle.std.proofs.lemmas.Bool.{cond-true, cond-false, cond_both, both_ways, cases_Bool}
 use Rattle.ranking.specs.Ranks.{first_place, first_entry, insert_ranked, Pairwise}
@@ -12,7 +12,7 @@ module _ {E : Type 0} (test : E → Bool) (d : E) where
       let r = first_entry-at xs in
       elim (test x) as (λ b. cond b x (first_entry test d xs) ≡ get_or (x ∷ xs) (cond b 0 (suc (first_place test xs))) d) [ true ↦ refl | false ↦ r ]
 
-  pub first_entry-none : (xs : List E) → All (λ x. test x ≡ false) xs → first_entry test d xs ≡ d
+  pub first_entry-none : (xs : List E) → AllByRecursion (λ x. test x ≡ false) xs → first_entry test d xs ≡ d
   first_entry-none [] a = refl
   first_entry-none (x ∷ xs) a = cond-false _ _ _ a.0 ∙ first_entry-none xs a.1
 
@@ -24,7 +24,7 @@ module _ {E : Type 0} (test : E → Bool) (d : E) where
       (λ _. ap (cond (test x) x) (first_entry-insert-other before e xs f))
 
   -- the only one that passes it is found
-  pub first_entry-insert-new : (before : E → E → Bool) (e : E) (xs : List E) → test e ≡ true → All (λ x. test x ≡ false) xs → first_entry test d (insert_ranked before e xs) ≡ e
+  pub first_entry-insert-new : (before : E → E → Bool) (e : E) (xs : List E) → test e ≡ true → AllByRecursion (λ x. test x ≡ false) xs → first_entry test d (insert_ranked before e xs) ≡ e
   first_entry-insert-new before e [] t a = cond-true _ _ _ t
   first_entry-insert-new before e (x ∷ xs) t a =
       cond_both (before e x) _ _ (λ l. first_entry test d l ≡ e) (λ _. cond-true _ _ _ t)
@@ -44,10 +44,10 @@ module _ {E : Type 0} (test : E → Bool) (d : E) where
   abbrev pub Once : List E → Type 0
   Once xs = Pairwise (λ x y. test x ≡ true → test y ≡ false) xs
 
-  others-fail : (x : E) (ys : List E) → test x ≡ true → All (λ y. test x ≡ true → test y ≡ false) ys → All (λ y. test y ≡ false) ys
+  others-fail : (x : E) (ys : List E) → test x ≡ true → AllByRecursion (λ y. test x ≡ true → test y ≡ false) ys → AllByRecursion (λ y. test y ≡ false) ys
   others-fail x ys t a = All-weaker _ _ (λ y f. f t) ys a
 
-  earlier-fails : (x : E) (ys : List E) (i : ℕ) (z : E) → i < length ys → test (get_or ys i z) ≡ true → All (λ y. test x ≡ true → test y ≡ false) ys → test x ≡ false
+  earlier-fails : (x : E) (ys : List E) (i : ℕ) (z : E) → i < length ys → test (get_or ys i z) ≡ true → AllByRecursion (λ y. test x ≡ true → test y ≡ false) ys → test x ≡ false
   earlier-fails x ys i z h t a =
       ⊎_elim (λ s. absurd (both_ways _ (All-get_or _ ys i z h a s) t)) (λ f. f) (cases_Bool (test x))
 

@@ -2,7 +2,7 @@
 use Rattle.std.proofs.Common.{◌≡◌, ℕ, zero, suc, ◌+◌, ◌<◌, Bool, List, [], ◌∷◌, length, get_or, set, sum_by, sym, refl, ap, ◌∙◌, subst, subst₂, arith}
 use mathlib.Core.List.Permᴰ
 use mathlib.Core.List.{Memᴰ, Permᴰ}
-use Rattle.std.specs.List.{remove, AllByRecursion as All}
+use Rattle.std.specs.List.{remove, AllByRecursion}
 use Rattle.std.proofs.ByRecursion.{All-weaker, All-get_or, All-set}
 use Rattle.std.proofs.lemmas.List.Sums.{sum_by-cons}
 use Rattle.std.proofs.lemmas.Bool.{cond_both}
@@ -24,7 +24,7 @@ module _ {E : Type 0} where
   mem-perm (Permᴰ.swap e d) (Memᴰ.tail (Memᴰ.tail m)) = Memᴰ.tail (Memᴰ.tail m)
   mem-perm (Permᴰ.trans p q) m = mem-perm q (mem-perm p m)
 
-  pub all-perm : (P : E → Type 0) {xs ys : List E} → Permᴰ xs ys → All P xs → All P ys
+  pub all-perm : (P : E → Type 0) {xs ys : List E} → Permᴰ xs ys → AllByRecursion P xs → AllByRecursion P ys
   all-perm P Permᴰ.nil a = tt
   all-perm P (Permᴰ.cons e p) a = (subst P e a.0, all-perm P p a.1)
   all-perm P (Permᴰ.swap e d) a = (subst P d a.1.0, (subst P e a.0, a.1.1))
@@ -41,7 +41,7 @@ module _ {E : Type 0} where
   pub pairwise-perm : (R : E → E → Type 0) → ((x y : E) → R x y → R y x) → {xs ys : List E} → Permᴰ xs ys → Pairwise R xs → Pairwise R ys
   pairwise-perm R s Permᴰ.nil a = tt
   pairwise-perm R s (Permᴰ.cons {a = x} {b = y} {l₁ = l} {l₂ = m} e p) a =
-      (subst (λ z. All (R z) m) e (all-perm (R x) p a.0), pairwise-perm R s p a.1)
+      (subst (λ z. AllByRecursion (R z) m) e (all-perm (R x) p a.0), pairwise-perm R s p a.1)
   pairwise-perm R s (Permᴰ.swap {a = x} {b = y} {l = l} e d) a =
       subst₂ (λ u v. Pairwise R (u ∷ (v ∷ l))) d e ((s x y a.0.0, a.1.0), (a.0.1, a.1.1))
   pairwise-perm R s (Permᴰ.trans p q) a = pairwise-perm R s q (pairwise-perm R s p a)
@@ -57,16 +57,16 @@ module _ {E : Type 0} (before : E → E → Bool) (e : E) where
   pub length-insert_ranked : (xs : List E) → length (insert_ranked before e xs) ≡ suc (length xs)
   length-insert_ranked xs = sym (length-perm (insert_ranked-perm xs))
 
-  pub all-insert_ranked : (P : E → Type 0) (xs : List E) → P e → All P xs → All P (insert_ranked before e xs)
+  pub all-insert_ranked : (P : E → Type 0) (xs : List E) → P e → AllByRecursion P xs → AllByRecursion P (insert_ranked before e xs)
   all-insert_ranked P xs p a = all-perm P (insert_ranked-perm xs) (p, a)
 
-  pub all-from-insert_ranked : (P : E → Type 0) (xs : List E) → All P (insert_ranked before e xs) → P e × All P xs
+  pub all-from-insert_ranked : (P : E → Type 0) (xs : List E) → AllByRecursion P (insert_ranked before e xs) → P e × AllByRecursion P xs
   all-from-insert_ranked P xs a = all-perm P (Permᴰ.symm (insert_ranked-perm xs)) a
 
   pub sum_by-insert_ranked : (f : E → ℕ) (xs : List E) → sum_by f (insert_ranked before e xs) ≡ f e + sum_by f xs
   sum_by-insert_ranked f xs = sym (sum_by-perm f (insert_ranked-perm xs)) ∙ sum_by-cons f e xs
 
-  pub pairwise-insert_ranked : (R : E → E → Type 0) → ((x y : E) → R x y → R y x) → (xs : List E) → All (R e) xs → Pairwise R xs → Pairwise R (insert_ranked before e xs)
+  pub pairwise-insert_ranked : (R : E → E → Type 0) → ((x y : E) → R x y → R y x) → (xs : List E) → AllByRecursion (R e) xs → Pairwise R xs → Pairwise R (insert_ranked before e xs)
   pairwise-insert_ranked R s xs a p = pairwise-perm R s (insert_ranked-perm xs) (a, p)
 
 -- removal
@@ -79,7 +79,7 @@ module _ {E : Type 0} where
   pub sum_by-removed : (f : E → ℕ) (xs : List E) (i : ℕ) (d : E) → i < length xs → sum_by f (remove xs i) + f (get_or xs i d) ≡ sum_by f xs
   sum_by-removed f xs i d h = omega (arith, sum_by-perm f (removed-perm xs i d h), sum_by-cons f (get_or xs i d) (remove xs i))
 
-  pub all-removed : (P : E → Type 0) (xs : List E) (i : ℕ) → All P xs → All P (remove xs i)
+  pub all-removed : (P : E → Type 0) (xs : List E) (i : ℕ) → AllByRecursion P xs → AllByRecursion P (remove xs i)
   all-removed P [] zero a = tt
   all-removed P [] (suc i) a = tt
   all-removed P (x ∷ xs) zero a = a.1

@@ -1,6 +1,6 @@
 -- The first place that passes a test, step by step and as a whole, and insertion as insertion at a place. Assumes nothing.
 use Rattle.std.proofs.Common.{◌≡◌, ℕ, zero, suc, ◌+◌, ◌<◌, ◌≤◌, Bool, true, false, cond, ltb, List, [], ◌∷◌, ◌++◌, length, get_or, take, drop, Some, None, sym, refl, ap, ◌∙◌, arith}
-use Rattle.std.specs.List.{insert, AllByRecursion as All}
+use Rattle.std.specs.List.{insert, AllByRecursion}
 use Rattle.std.proofs.lemmas.List.{at_drop_more, at_drop_all}
 use Rattle.std.proofs.lemmas.Bool.{cond-true, cond-false, cond_both, lt-ltb, le-ltb}
 use Rattle.ranking.specs.Ranks.{first_place, place_of, insert_ranked}
@@ -21,10 +21,10 @@ module _ {E : Type 0} (test : E → Bool) where
   first-le (x ∷ xs) = let r = first-le xs in cond_both (test x) _ _ (λ n. n ≤ suc (length xs)) (λ _. omega arith) (λ _. omega arith)
 
   -- none in front passes, and the one there does
-  pub first-front : (xs : List E) → All (λ x. test x ≡ false) (take (first_place test xs) xs)
+  pub first-front : (xs : List E) → AllByRecursion (λ x. test x ≡ false) (take (first_place test xs) xs)
   first-front [] = tt
   first-front (x ∷ xs) =
-      cond_both (test x) 0 (suc (first_place test xs)) (λ n. All (λ y. test y ≡ false) (take n (x ∷ xs))) (λ _. tt) (λ f. (f, first-front xs))
+      cond_both (test x) 0 (suc (first_place test xs)) (λ n. AllByRecursion (λ y. test y ≡ false) (take n (x ∷ xs))) (λ _. tt) (λ f. (f, first-front xs))
 
   pub first-here : (xs : List E) (d : E) → first_place test xs < length xs → test (get_or xs (first_place test xs) d) ≡ true
   first-here [] d = λ h. absurd (omega arith)
@@ -40,10 +40,10 @@ module _ {E : Type 0} (test : E → Bool) where
       ap suc (first-is xs i d (omega arith) (λ k h. low (suc k) (omega arith)) (λ h. here (omega arith))) ∙ sym (cond-false _ _ _ (low zero (omega arith)))
 
   -- a test that none passes
-  pub first-none : (xs : List E) → length xs ≤ first_place test xs → All (λ x. test x ≡ false) xs
+  pub first-none : (xs : List E) → length xs ≤ first_place test xs → AllByRecursion (λ x. test x ≡ false) xs
   first-none [] = λ h. tt
   first-none (x ∷ xs) =
-      cond_both (test x) 0 (suc (first_place test xs)) (λ n. suc (length xs) ≤ n → All (λ y. test y ≡ false) (x ∷ xs)) (λ _ h. absurd (omega arith)) (λ f h. (f, first-none xs (omega arith)))
+      cond_both (test x) 0 (suc (first_place test xs)) (λ n. suc (length xs) ≤ n → AllByRecursion (λ y. test y ≡ false) (x ∷ xs)) (λ _ h. absurd (omega arith)) (λ f h. (f, first-none xs (omega arith)))
 
   -- where a search that has passed i places stops
   pub found_here : (xs : List E) (i : ℕ) (d : E) → i < length xs → i + first_place test (drop i xs) ≡ first_place test xs → test (get_or xs i d) ≡ true → Some i ≡ cond (ltb (first_place test xs) (length xs)) (Some (first_place test xs)) None
@@ -64,6 +64,6 @@ module _ {E : Type 0} (before : E → E → Bool) (e : E) where
       [ true ↦ refl | false ↦ ap (λ l. x ∷ l) r ]
 
   -- before none: at the end
-  pub insert_ranked-last : (xs : List E) → All (λ x. before e x ≡ false) xs → insert_ranked before e xs ≡ xs ++ e ∷ []
+  pub insert_ranked-last : (xs : List E) → AllByRecursion (λ x. before e x ≡ false) xs → insert_ranked before e xs ≡ xs ++ e ∷ []
   insert_ranked-last [] a = refl
   insert_ranked-last (x ∷ xs) a = cond-false _ _ _ a.0 ∙ ap (λ l. x ∷ l) (insert_ranked-last xs a.1)

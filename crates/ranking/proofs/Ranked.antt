@@ -1,6 +1,6 @@
 -- Ranked lists: the test, the places, and that insertion and removal keep them. Assumes nothing.
 use Rattle.std.proofs.Common.{◌≡◌, ℕ, zero, suc, ◌<◌, Bool, true, false, not, List, [], ◌∷◌, length, get_or, set, refl, ◌∙◌, ⊎_elim, arith}
-use Rattle.std.specs.List.{remove, AllByRecursion as All, list_all}
+use Rattle.std.specs.List.{remove, AllByRecursion, list_all}
 use Rattle.std.proofs.ByRecursion.{All-weaker, All-get_or, All-from_get_or}
 use Rattle.std.proofs.lemmas.Bool.{cond_both, both_ways, cases_Bool, and_parts, and_from, not-true, not_from_false}
 use Rattle.ranking.specs.Ranks.{insert_ranked, Ranked, is_ranked, OrderLaws}
@@ -8,11 +8,11 @@ use Rattle.ranking.proofs.Perms.{all-insert_ranked, pairwise-removed, pairwise-s
 
 -- the test says what it should
 module _ {E : Type 0} where
-  pub none_passes : (p : E → Bool) (xs : List E) → list_all (λ y. not (p y)) xs ≡ true → All (λ y. p y ≡ false) xs
+  pub none_passes : (p : E → Bool) (xs : List E) → list_all (λ y. not (p y)) xs ≡ true → AllByRecursion (λ y. p y ≡ false) xs
   none_passes p [] h = tt
   none_passes p (x ∷ xs) h = let b = and_parts _ _ h in (not-true _ b.0, none_passes p xs b.1)
 
-  pub passes_none : (p : E → Bool) (xs : List E) → All (λ y. p y ≡ false) xs → list_all (λ y. not (p y)) xs ≡ true
+  pub passes_none : (p : E → Bool) (xs : List E) → AllByRecursion (λ y. p y ≡ false) xs → list_all (λ y. not (p y)) xs ≡ true
   passes_none p [] a = refl
   passes_none p (x ∷ xs) a = and_from _ _ (not_from_false _ a.0) (passes_none p xs a.1)
 

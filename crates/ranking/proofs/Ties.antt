@@ -1,9 +1,8 @@
 -- Lists in which no two entries tie, and what a search for a tie tells. Assumes nothing.
 use Rattle.std.proofs.Common.{◌≡◌, ℕ, ◌<◌, ◌≤◌, Bool, true, false, not, ◌&&◌, List, [], ◌∷◌, length, get_or, set, Some, None, sym, refl, ◌∙◌, subst, ap₂, ⊎_elim, arith}
-use Rattle.std.specs.List.{remove, AllByRecursion as All}
-use Rattle.std.specs.Map.Invariant.{is-distinct}
+use Rattle.std.specs.List.{remove, AllByRecursion}
 use Rattle.std.proofs.lemmas.Bool.{cond-true, cond-false, cases_lt, lt-ltb, le-ltb, both_ways, and_parts, and_from}
-use Rattle.ranking.specs.Ranks.{first_place, insert_ranked, ties, tie_place, Pairwise, Ranked}
+use Rattle.ranking.specs.Ranks.{is_distinct, first_place, insert_ranked, ties, tie_place, Pairwise, Ranked}
 use Rattle.ranking.proofs.Places.{first-here, first-none}
 use Rattle.ranking.proofs.Perms.{pairwise-insert_ranked, pairwise-removed, pairwise-set}
 use Rattle.ranking.proofs.Ranked.{none_passes, passes_none}
@@ -22,16 +21,16 @@ module _ {E : Type 0} (before : E → E → Bool) where
   abbrev pub Untied : List E → Type 0
   Untied xs = Pairwise (λ x y. ties before x y ≡ false) xs
 
-  pub untied-from-test : (xs : List E) → is-distinct (ties before) xs ≡ true → Untied xs
+  pub untied-from-test : (xs : List E) → is_distinct (ties before) xs ≡ true → Untied xs
   untied-from-test [] h = tt
   untied-from-test (x ∷ xs) h = let b = and_parts _ _ h in (none_passes (ties before x) xs b.0, untied-from-test xs b.1)
 
-  pub test-from-untied : (xs : List E) → Untied xs → is-distinct (ties before) xs ≡ true
+  pub test-from-untied : (xs : List E) → Untied xs → is_distinct (ties before) xs ≡ true
   test-from-untied [] u = refl
   test-from-untied (x ∷ xs) u = and_from _ _ (passes_none (ties before x) xs u.0) (test-from-untied xs u.1)
 
   -- nothing found: e ties with none
-  pub none-ties : (e : E) (xs : List E) → tie_place before e xs ≡ None → All (λ x. ties before e x ≡ false) xs
+  pub none-ties : (e : E) (xs : List E) → tie_place before e xs ≡ None → AllByRecursion (λ x. ties before e x ≡ false) xs
   none-ties e xs h = first-none (ties before e) xs (⊎_elim (λ l. absurd (found l)) (λ g. g) (cases_lt (first_place (ties before e) xs) (length xs)))
     where
       found : first_place (ties before e) xs < length xs → ⊥
@@ -62,10 +61,10 @@ module _ {E : Type 0} (before : E → E → Bool) where
   pub untied-removed : (xs : List E) (i : ℕ) → Untied xs → Untied (remove xs i)
   untied-removed xs i u = pairwise-removed (λ x y. ties before x y ≡ false) xs i u
 
-  pub untied-inserted-tested : (e : E) (xs : List E) → tie_place before e xs ≡ None → is-distinct (ties before) xs ≡ true → is-distinct (ties before) (insert_ranked before e xs) ≡ true
+  pub untied-inserted-tested : (e : E) (xs : List E) → tie_place before e xs ≡ None → is_distinct (ties before) xs ≡ true → is_distinct (ties before) (insert_ranked before e xs) ≡ true
   untied-inserted-tested e xs h t = test-from-untied _ (untied-inserted e xs h (untied-from-test xs t))
 
-  pub untied-removed-tested : (xs : List E) (i : ℕ) → is-distinct (ties before) xs ≡ true → is-distinct (ties before) (remove xs i) ≡ true
+  pub untied-removed-tested : (xs : List E) (i : ℕ) → is_distinct (ties before) xs ≡ true → is_distinct (ties before) (remove xs i) ≡ true
   untied-removed-tested xs i t = test-from-untied _ (untied-removed xs i (untied-from-test xs t))
 
   -- an entry changed in place to one that ranks the same
@@ -77,7 +76,7 @@ module _ {E : Type 0} (before : E → E → Bool) where
     untied-set u =
         pairwise-set (λ a b. ties before a b ≡ false) xs i y d h (λ z f. same-ties z ∙ f) (λ z f. ties-sym z y ∙ same-ties z ∙ ties-sym (get_or xs i d) z ∙ f) u
 
-    pub untied-set-tested : is-distinct (ties before) xs ≡ true → is-distinct (ties before) (set xs i y) ≡ true
+    pub untied-set-tested : is_distinct (ties before) xs ≡ true → is_distinct (ties before) (set xs i y) ≡ true
     untied-set-tested t = test-from-untied _ (untied-set (untied-from-test xs t))
 
   -- ranked, and no two tie: each is before each one behind it
@@ -93,6 +92,6 @@ module _ {E : Type 0} (before : E → E → Bool) where
   strictly-ranked [] r u = tt
   strictly-ranked (x ∷ xs) r u = (each xs r.0 u.0, strictly-ranked xs r.1 u.1)
     where
-      each : (ys : List E) → All (λ y. before y x ≡ false) ys → All (λ y. ties before x y ≡ false) ys → All (λ y. before x y ≡ true) ys
+      each : (ys : List E) → AllByRecursion (λ y. before y x ≡ false) ys → AllByRecursion (λ y. ties before x y ≡ false) ys → AllByRecursion (λ y. before x y ≡ true) ys
       each [] a t = tt
       each (y ∷ ys) a t = (before-from-untied x y a.0 t.0, each ys a.1 t.1)

@@ -1,6 +1,6 @@
 -- Ranked lists: what a ranking owes, where an entry goes, and when a list is ranked. Assumes nothing.
 use Rattle.std.specs.Prelude.{◌≡◌, ℕ, suc, Bool, true, false, cond, not, ◌&&◌, List, [], ◌∷◌, length, Some, None, Option, nat_lt}
-use Rattle.std.specs.List.{AllByRecursion as All, list_all}
+use Rattle.std.specs.List.{AllByRecursion, list_all}
 
 -- The order laws. They leave ties free: two entries of which neither is before the other.
 pub record OrderLaws {E : Type 0} (before : E → E → Bool) : Type 0 where
@@ -38,7 +38,7 @@ tie_place before e xs = cond (nat_lt (first_place (ties before e) xs) (length xs
 -- Each entry stands in the relation to each one behind it.
 abbrev pub Pairwise : {E : Type 0} → (E → E → Type 0) → List E → Type 0
 Pairwise R [] = Unit {0}
-Pairwise R (x ∷ xs) = All (R x) xs × Pairwise R xs
+Pairwise R (x ∷ xs) = AllByRecursion (R x) xs × Pairwise R xs
 
 -- A list is ranked when no entry is before one that stands in front of it.
 abbrev pub Ranked : {E : Type 0} → (E → E → Bool) → List E → Type 0
@@ -48,3 +48,8 @@ Ranked before xs = Pairwise (λ x y. before y x ≡ false) xs
 abbrev pub is_ranked : {E : Type 0} → (E → E → Bool) → List E → Bool
 is_ranked before [] = true
 is_ranked before (x ∷ xs) = list_all (λ y. not (before y x)) xs && is_ranked before xs
+
+-- No two entries of the list are the same for the test, each compared with those behind it.
+abbrev pub is_distinct : {E : Type 0} → (E → E → Bool) → List E → Bool
+is_distinct same [] = true
+is_distinct same (x ∷ xs) = list_all (λ y. not (same x y)) xs && is_distinct same xs

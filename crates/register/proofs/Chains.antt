@@ -1,7 +1,6 @@
 -- One call after another.
-use Rattle.std.proofs.Common.{◌≡◌, ℕ, ◌+◌, ◌-◌, ◌<◌, ◌≤◌, Some, None, Ok, Err, Option, Result, sym, refl, ap, ◌∙◌, subst, arith}
+use Rattle.std.proofs.Common.{◌≡◌, ℕ, ◌<◌, ◌≤◌, Some, None, Ok, Err, Option, sym, refl, ap, ◌∙◌, subst, arith}
 use Rattle.std.proofs.lemmas.Bool.Decides.{nat_tests}
-use Rattle.register.specs.declared.faults.Account.{Account}
 use Rattle.register.specs.declared.faults.RegisterFault.{RegisterFault}
 use Rattle.register.specs.declared.slips.Slip.{Slip}
 use Rattle.register.specs.Books.{Book}

@@ -1,13 +1,13 @@
 -- The laws of the movements.
-use Rattle.std.proofs.Common.{◌≡◌, ℕ, ◌+◌, ◌-◌, ◌<◌, ◌≤◌, ◌⊎◌, Some, None, Ok, Err, Option, Result, sym, refl, ap, ◌∙◌, subst, inl, inr, arith}
+use Rattle.std.proofs.Common.{◌≡◌, ℕ, ◌+◌, ◌<◌, ◌≤◌, Some, None, Ok, Option, sym, refl, ap, ◌∙◌, subst, inl, inr, arith}
 use Rattle.std.proofs.lemmas.Bool.Decides.{nat_tests}
 use Rattle.std.proofs.lemmas.Bool.{cases_eq}
 use Rattle.register.specs.declared.faults.Account.{Account}
 use Rattle.register.specs.declared.faults.RegisterFault.{RegisterFault}
 use Rattle.register.specs.Books.{Book, total, at, most_amount}
 use Rattle.register.specs.Moves.{Move, Deposit, Withdraw, Block, Release, Pay, refusal, moved, after_move, unless, account_of, reading}
-use Rattle.register.specs.Laws.{RefusedChangesNothing, Only, Deposited, DepositsAdd, WithdrawalsTake, TotalsKept, ReadingShows, TotalsAreBounded}
-use Rattle.register.proofs.Accounts.{at_here, at-apart, at-other-asset, at-covered, book-ext}
+use Rattle.register.specs.Laws.{RefusedChangesNothing, Deposited, DepositsAdd, WithdrawalsTake, TotalsKept, ReadingShows, TotalsAreBounded}
+use Rattle.register.proofs.Accounts.{at_here, at-apart, at-other-asset, at-covered}
 use Rattle.register.proofs.Grants
 use Rattle.register.proofs.Totals.{total-deposit, total-withdraw, total-block, total-release, total-pay}
 

@@ -1,6 +1,6 @@
 -- What the movements do to an asset's total.
-use Rattle.std.proofs.Common.{◌≡◌, ℕ, ◌+◌, ◌-◌, ◌<◌, ◌≤◌, sym, refl, ap, ◌∙◌, subst, arith}
-use Rattle.register.specs.Books.{Book, total, at, sum_to}
+use Rattle.std.proofs.Common.{◌≡◌, ℕ, ◌+◌, ◌<◌, ◌≤◌, arith}
+use Rattle.register.specs.Books.{Book, total, at}
 use Rattle.register.specs.Moves.{Deposit, Withdraw, Block, Release, Pay, moved}
 use Rattle.register.proofs.Sums.{sum_to-balance, sum_to-same, part-sum_to}
 use Rattle.register.proofs.Accounts.{at-covered, at_own, at_none, sum_to-at}

@@ -1,5 +1,5 @@
 -- What the movements promise, in the words of an account's holder.
-use Rattle.std.specs.Prelude.{◌≡◌, ℕ, ◌+◌, ◌<◌, ◌≤◌, Some, None, Ok, Err, Option, Result, ◌≢◌}
+use Rattle.std.specs.Prelude.{◌≡◌, ℕ, ◌+◌, ◌≤◌, Some, None, Ok, ◌≢◌}
 use Rattle.register.specs.declared.faults.Account.{Account}
 use Rattle.register.specs.declared.faults.RegisterFault.{RegisterFault}
 use Rattle.register.specs.Books.{Book, total, most_amount}

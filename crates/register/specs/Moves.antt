@@ -1,5 +1,5 @@
 -- The five movements of a register: which is refused and why, and what one leaves.
-use Rattle.std.specs.Prelude.{ℕ, ◌+◌, ◌-◌, Bool, true, false, cond, ◌&&◌, Some, None, Ok, Err, Option, Result, nat_le}
+use Rattle.std.specs.Prelude.{ℕ, ◌+◌, Bool, true, false, ◌&&◌, Some, None, Ok, Err, Option, Result, nat_le}
 use Rattle.register.specs.declared.faults.Account.{Account}
 use Rattle.register.specs.declared.faults.RegisterCause.{RegisterCause}
 use Rattle.register.specs.declared.faults.RegisterCause.TheVariants.{NoAccount, BadAmount, OverTotal, TooLittleFree, OverCap, TooLittleBlocked}

@@ -63,7 +63,7 @@ impl Slip {
     pub fn amount(&self) -> u64
         ensures { result ≡ self.now.amount }
     {
-        self.amount // what is on it
+        self.amount
     }
 
     // Cuts a part off, and keeps the rest: `amount`, or the whole where there is less.
@@ -71,17 +71,26 @@ impl Slip {
         ensures part { result ≡ record { holder = self.old.holder; asset = self.old.asset; amount = min amount self.old.amount } }
         ensures rest { self.new ≡ record { holder = self.old.holder; asset = self.old.asset; amount = self.old.amount - amount } }
     {
-        let part = amount.min(self.amount);
-        self.amount -= part;
+        let whole = &mut self.amount;
+        let part = amount.min(*whole);
+        *whole -= part;
         Slip::new(self.holder, self.asset, part)
     }
 
     // Two slips that add up to this one: the first for `amount`, or for the whole where there is less.
-    pub fn cut(mut self, amount: u64) -> (Slip, Slip)
+    pub fn cut(self, amount: u64) -> (Slip, Slip)
         ensures first { result.0 ≡ record { holder = self.holder; asset = self.asset; amount = min amount self.amount } }
         ensures rest { result.1 ≡ record { holder = self.holder; asset = self.asset; amount = self.amount - amount } }
     {
-        let part = self.cut_off(amount);
-        (part, self)
+        let Slip {
+            holder,
+            asset,
+            amount: whole,
+        } = self;
+        let part = amount.min(whole);
+        (
+            Slip::new(holder, asset, part),
+            Slip::new(holder, asset, whole - part),
+        )
     }
 }

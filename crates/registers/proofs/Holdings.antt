@@ -1,6 +1,6 @@
 -- What all entries of a list have of an asset is what all holders have of it.
-use Rattle.std.proofs.Common.{◌≡◌, ℕ, ◌+◌, ◌<◌, true, false, cond, eqb, ◌⊎◌, List, [], ◌∷◌, length, get_or, take, sum_by, sym, refl, ap, subst, inl, inr, arith}
-use Rattle.std.specs.List.{AllByRecursion as All}
+use Rattle.std.proofs.Common.{◌≡◌, ℕ, ◌+◌, ◌<◌, true, false, cond, eqb, List, [], ◌∷◌, length, get_or, take, sum_by, sym, refl, ap, subst, inl, inr, arith}
+use Rattle.std.specs.List.{AllByRecursion}
 use Rattle.std.proofs.lemmas.List.Sums.{sum_by-cons, sum_by_more}
 use Rattle.std.proofs.lemmas.Bool.{cond-true, cond-false, cases_eq, eq-eqb, ne_eqb}
 use Rattle.std.proofs.lemmas.Bool.Decides.{nat_tests}
@@ -27,7 +27,7 @@ holder_known x k = grind (arith, nat_tests)
 cons-writes : (x : Entry) (xs : List Entry) → Writes xs x (x ∷ xs)
 cons-writes x xs h a = elim (is_of h a x) as (λ b. (cond b x (first_entry (is_of h a) no_entry xs)).balance ≡ cond b x.balance (balance_in xs h a)) [ true ↦ refl | false ↦ refl ]
 
-pub held-total : (a : ℕ) (xs : List Entry) → Apart xs → All (λ x. is_known_lem x ≡ true) xs → total (list_book xs) a ≡ sum_by (held_in a) xs
+pub held-total : (a : ℕ) (xs : List Entry) → Apart xs → AllByRecursion (λ x. is_known_lem x ≡ true) xs → total (list_book xs) a ≡ sum_by (held_in a) xs
 held-total a [] u k = sum_to-none 16 (λ h. 0 + 0) (λ i l. refl)
 held-total a (x ∷ xs) u k =
     let b = list_book xs in

@@ -1,13 +1,12 @@
 -- What a list register keeps of its list through every change, and why the list never wants for room.
 use Rattle.std.proofs.Common.{◌≡◌, ℕ, suc, ◌+◌, ◌*◌, ◌<◌, ◌≤◌, Bool, true, false, List, [], ◌∷◌, length, get_or, take, set, Some, None, sum_by, sym, refl, ap, ◌∙◌, subst, arith, length-take-le, get_or-take}
 use lib.Seq.{take-set-lt}
-use Rattle.std.specs.List.{remove, AllByRecursion as All, list_all}
-use Rattle.std.specs.Map.Invariant.{is-distinct}
+use Rattle.std.specs.List.{remove, AllByRecursion, list_all}
 use Rattle.std.proofs.lemmas.List.Sums.{sum_by-take-le}
 use Rattle.std.proofs.ByRecursion.{All-weaker, All-from_get_or, All-set}
 use Rattle.std.proofs.lemmas.Bool.{lt-ltb, and_parts, and_from}
 use Rattle.std.proofs.lemmas.Bool.Decides.{nat_tests}
-use Rattle.ranking.specs.Ranks.{insert_ranked, ties, tie_place, is_ranked, Pairwise, OrderLaws}
+use Rattle.ranking.specs.Ranks.{is_distinct, insert_ranked, ties, tie_place, is_ranked, Pairwise, OrderLaws}
 use Rattle.ranking.proofs.Perms.{all-insert_ranked, all-removed, length-insert_ranked}
 use Rattle.ranking.proofs.Ranked.{ranked-from-test, set_tested, removed-tested, insert_ranked-tested}
 use Rattle.ranking.proofs.Ties.{untied-from-test, tie-found, untied-inserted-tested, untied-removed-tested, untied-set-tested, strictly-ranked}
@@ -29,20 +28,20 @@ key-rises x y k b = grind (arith, nat_tests)
 key-bound : (x : Entry) → is_known_lem x ≡ true → key x < 192
 key-bound x k = grind (arith, nat_tests)
 
-keys-fit : (m : ℕ) (xs : List Entry) → m ≤ 192 → Pairwise (λ x y. account_before x y ≡ true) xs → All (λ x. is_known_lem x ≡ true) xs → All (λ x. m ≤ key x) xs → length xs + m ≤ 192
+keys-fit : (m : ℕ) (xs : List Entry) → m ≤ 192 → Pairwise (λ x y. account_before x y ≡ true) xs → AllByRecursion (λ x. is_known_lem x ≡ true) xs → AllByRecursion (λ x. m ≤ key x) xs → length xs + m ≤ 192
 keys-fit m [] l p k g = omega arith
 keys-fit m (x ∷ xs) l p k g =
-    let above : All (λ y. suc (key x) ≤ key y) xs = All-weaker (λ y. account_before x y ≡ true) (λ y. suc (key x) ≤ key y) (λ y b. key-rises x y k.0 b) xs p.0 in
+    let above : AllByRecursion (λ y. suc (key x) ≤ key y) xs = All-weaker (λ y. account_before x y ≡ true) (λ y. suc (key x) ≤ key y) (λ y b. key-rises x y k.0 b) xs p.0 in
     let r = keys-fit (suc (key x)) xs (key-bound x k.0) p.1 k.1 above in
     let s = g.0 in
     omega arith
 
 module _ (p : Entry → Bool) where
-  pub all-from-pass : (xs : List Entry) → list_all p xs ≡ true → All (λ x. p x ≡ true) xs
+  pub all-from-pass : (xs : List Entry) → list_all p xs ≡ true → AllByRecursion (λ x. p x ≡ true) xs
   all-from-pass [] h = tt
   all-from-pass (x ∷ xs) h = let b = and_parts _ _ h in (b.0, all-from-pass xs b.1)
 
-  pass-from-all : (xs : List Entry) → All (λ x. p x ≡ true) xs → list_all p xs ≡ true
+  pass-from-all : (xs : List Entry) → AllByRecursion (λ x. p x ≡ true) xs → list_all p xs ≡ true
   pass-from-all [] a = refl
   pass-from-all (x ∷ xs) a = and_from _ _ a.0 (pass-from-all xs a.1)
 
@@ -58,7 +57,7 @@ module _ (p : Entry → Bool) where
 -- what a list register keeps of its list
 pub record Sound (xs : List Entry) : Type 0 where
   pub ranked : is_ranked account_before xs ≡ true
-  pub apart : is-distinct (ties account_before) xs ≡ true
+  pub apart : is_distinct (ties account_before) xs ≡ true
   pub known : list_all is_known_lem xs ≡ true
   pub filled : list_all is_filled xs ≡ true
   pub bounded : TotalsBounded xs

@@ -1,6 +1,6 @@
 -- Accounts in a list of entries: what is read of one, and what a change of one entry writes.
 use Rattle.std.proofs.Common.{◌≡◌, ℕ, ◌<◌, true, false, cond, List, [], ◌∷◌, length, get_or, set, Some, None, sym, refl, ap, ◌∙◌, arith}
-use Rattle.std.specs.List.{remove, AllByRecursion as All}
+use Rattle.std.specs.List.{remove, AllByRecursion}
 use Rattle.std.proofs.ByRecursion.{All-weaker}
 use Rattle.std.proofs.lemmas.Bool.{cond_both}
 use Rattle.std.proofs.lemmas.Bool.Decides.{nat_tests}
@@ -37,7 +37,7 @@ once h a [] u = tt
 once h a (x ∷ xs) u = (All-weaker (λ y. ties account_before x y ≡ false) (λ y. is_of h a x ≡ true → is_of h a y ≡ false) (λ y f. untied-of h a x y f) xs u.0, once h a xs u.1)
 
 -- an account of which no entry is
-pub absent : (e : Entry) (xs : List Entry) → All (λ x. ties account_before e x ≡ false) xs → (h a : ℕ) → is_of h a e ≡ true → All (λ x. is_of h a x ≡ false) xs
+pub absent : (e : Entry) (xs : List Entry) → AllByRecursion (λ x. ties account_before e x ≡ false) xs → (h a : ℕ) → is_of h a e ≡ true → AllByRecursion (λ x. is_of h a x ≡ false) xs
 absent e xs n h a t = All-weaker (λ x. ties account_before e x ≡ false) (λ x. is_of h a x ≡ false) (λ x f. untied-of h a e x f t) xs n
 
 abbrev pub of_entry : Entry → Balance

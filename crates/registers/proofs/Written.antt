@@ -1,10 +1,10 @@
 -- One balance written in a book: its totals, and the movement that it makes.
-use Rattle.std.proofs.Common.{◌≡◌, ℕ, ◌+◌, ◌-◌, ◌<◌, ◌≤◌, ◌⊎◌, sym, refl, ap, ◌∙◌, inl, inr, arith}
+use Rattle.std.proofs.Common.{◌≡◌, ℕ, ◌+◌, ◌-◌, ◌<◌, ◌≤◌, ap, inl, inr, arith}
 use mathlib.Core.Path.{fun_ext}
 use Rattle.std.proofs.lemmas.Bool.Decides.{nat_tests}
 use Rattle.std.proofs.lemmas.Bool.{cases_eq}
 use Rattle.register.specs.Books.{Book, Sums, at, plus, minus, total, most_amount}
-use Rattle.register.specs.Moves.{Deposit, Withdraw, Block, Release, Pay, moved, holding}
+use Rattle.register.specs.Moves.{Deposit, Withdraw, Block, Release, moved, holding}
 use Rattle.register.proofs.Accounts.{at-is, at_here, sum_to-at}
 use Rattle.register.proofs.Sums.{sum_to-same, sum_to-balance}
 use Rattle.registers.specs.declared.balances.Balance.{Balance}

@@ -1,4 +1,6 @@
 // Registers that keep the accounts themselves.
+#![tactic(auto)]
+
 mod accounts;
 pub mod balances;
 pub mod bottom;

@@ -1,7 +1,6 @@
 ghost use Rattle.std.specs.Prelude.{◌≡◌, ◌≤◌, true, length, take};
 ghost use Rattle.std.specs.List.{list_all};
-ghost use Rattle.std.specs.Map.Invariant.{is-distinct};
-ghost use Rattle.ranking.specs.Ranks.{is_ranked, ties, tie_place};
+ghost use Rattle.ranking.specs.Ranks.{is_distinct, is_ranked, ties, tie_place};
 ghost use Rattle.register.specs.Books.{empty_book};
 ghost use Rattle.registers.specs.Tables.{nothing};
 ghost use Rattle.registers.specs.Lists.{account_before, is_known_lem, is_filled, list_book, TotalsBounded};
@@ -21,7 +20,7 @@ pub struct List {
     ghost sized: { length entries ≡ 192 },
     ghost within: { len ≤ 192 },
     ghost ranked: { is_ranked account_before (take len entries) ≡ true },
-    ghost apart: { is-distinct (ties account_before) (take len entries) ≡ true },
+    ghost apart: { is_distinct (ties account_before) (take len entries) ≡ true },
     ghost known: { list_all is_known_lem (take len entries) ≡ true },
     ghost filled: { list_all is_filled (take len entries) ≡ true },
     ghost bounded: { TotalsBounded (take len entries) },

@@ -1,7 +1,7 @@
 -- What a priced bid within the limits can oblige to.
-use Rattle.rules.specs.Words.{ℕ, ◌*◌, ◌≤◌, T, Some, Side, Buy, Sell}
+use Rattle.rules.specs.Words.{ℕ, T, Some, Side, Buy, Sell}
 use Rattle.rules.specs.Bids.{most_price, most_lots, is_price_lem, is_lots_lem, obligation_of}
-use Rattle.std.proofs.Common.{mul-le-mul, arith, rules}
+use Rattle.std.proofs.Common.{◌*◌, ◌≤◌, mul-le-mul, arith, rules}
 
 price-bounds : (n : ℕ) → T (is_price_lem n) → (1 ≤ n) × (n ≤ most_price)
 price-bounds n t = search rules

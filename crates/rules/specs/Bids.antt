@@ -1,5 +1,6 @@
 -- The limits of a bid, and what it obliges its holder to.
-use Rattle.rules.specs.Words.{ℕ, ◌*◌, Bool, ◌&&◌, leb, Option, Some, None, Side, Buy, Sell}
+use Rattle.std.specs.Prelude.{◌*◌, ◌&&◌}
+use Rattle.rules.specs.Words.{ℕ, Bool, leb, Option, Some, None, Side, Buy, Sell}
 
 -- the highest price of a lot, in minor units of the currency
 abbrev pub most_price : ℕ

@@ -1,5 +1,6 @@
 -- The checked figures of the two rules, as one table.
-use Rattle.rules.specs.Words.{ℕ, ◌≡◌, false, List, [], ◌∷◌, All, Option, Some, None, Side, Buy, Question}
+use Rattle.std.specs.Prelude.{◌≡◌, ◌∷◌}
+use Rattle.rules.specs.Words.{ℕ, false, List, [], AllByRecursion, Option, Some, None, Buy, Question}
 use Rattle.rules.specs.Rules.{Rule, corporate, government, verdict_number}
 
 -- a row: what the definitions give, and the figure
@@ -32,4 +33,4 @@ figures =
 
 -- each row's figure is what the definitions give
 abbrev pub Hold : List Row → Type 0
-Hold = All (λ r. r.found ≡ r.figure)
+Hold = AllByRecursion (λ r. r.found ≡ r.figure)

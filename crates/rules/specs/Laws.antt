@@ -1,5 +1,6 @@
 -- The two rules and the obligation in the market's words: what is admitted, why the rest is refused, and what a bid can oblige to.
-use Rattle.rules.specs.Words.{ℕ, ◌-◌, ◌*◌, ◌%◌, ◌≤◌, ◌≡◌, T, true, false, Option, Some, None}
+use Rattle.std.specs.Prelude.{◌-◌, ◌*◌, ◌%◌, ◌≤◌, ◌≡◌}
+use Rattle.rules.specs.Words.{ℕ, T, true, false, Option, Some, None}
 use Rattle.rules.specs.Words.{Side, Buy, Sell, Question, NotWholeSteps, OffBest, OffSettlement, OppositeBid}
 use Rattle.rules.specs.Bids.{is_price_lem, is_lots_lem, obligation_of}
 use Rattle.rules.specs.Rules.{corporate, government}

@@ -1,5 +1,6 @@
 -- Market rules: what a rule means, its law, and the rules of the two markets.
-use Rattle.rules.specs.Words.{ℕ, ◌*◌, ◌%◌, ◌≤◌, ◌≡◌, Bool, true, false, not, ◌&&◌, leb, eqb, Option, Some, None, Result, Ok, Err}
+use Rattle.std.specs.Prelude.{◌*◌, ◌%◌, ◌≤◌, ◌≡◌, ◌&&◌}
+use Rattle.rules.specs.Words.{ℕ, Bool, true, false, not, leb, eqb, Option, Some, None, Result, Ok, Err}
 use Rattle.rules.specs.Words.{Side, Buy, Sell, Question, RuleRefusal, NotWholeSteps, OffBest, OffSettlement, OppositeBid}
 
 -- the meaning of a rule: its step, and its verdict on each question about a bid: the refusal, or None where the bid is admitted

@@ -1,6 +1,6 @@
 -- The words that the other files use: numbers, tests, and the declared words of bids and rules.
 pub use Rattle.std.specs.Prelude.{◌≡◌, refl, Bool, true, false, cond, not, ◌&&◌, List, [], ◌∷◌, ◌++◌, ℕ, ◌+◌, ◌-◌, ◌*◌, ◌%◌, ◌≤◌, T, leb, eqb}
-pub use Rattle.std.specs.List.{AllByRecursion as All}
+pub use Rattle.std.specs.List.{AllByRecursion}
 pub use Rattle.std.specs.declared.option.Option.{Option}
 pub use Rattle.std.specs.declared.option.Option.TheVariants.{Some, None}
 pub use Rattle.std.specs.declared.result.Result.{Result}

@@ -1,4 +1,6 @@
 // What a market's rule says of a bid, and what a bid obliges its holder to.
+#![tactic(auto)]
+
 mod bid;
 mod laws;
 mod markets;

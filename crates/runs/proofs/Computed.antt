@@ -7,21 +7,21 @@ use Rattle.model.specs.Calls.{answer, trades, after}
 use Rattle.model.specs.Tally.{reduced_by, tallied}
 use Rattle.register.specs.Books.{at, sum_to}
 use Rattle.runs.specs.Scripts.{Agrees}
-use Rattle.runs.specs.FullDay as fullDay
-use Rattle.runs.specs.SecondDay as secondDay
+use Rattle.runs.specs.FullDay as full_day
+use Rattle.runs.specs.SecondDay as second_day
 use Rattle.runs.specs.Governed as governed
 use Rattle.runs.specs.Edges as edges
 use Rattle.runs.specs.Blocked as blocked
 use Rattle.runs.specs.Capped as capped
 use Rattle.runs.specs.Mixed as mixed
-use Rattle.runs.specs.MixedTens as mixedTens
+use Rattle.runs.specs.MixedTens as mixed_tens
 use Rattle.runs.specs.Every.{EveryScriptAgrees}
 
-full-day-agrees : Agrees fullDay.script
+full-day-agrees : Agrees full_day.script
 unfolding average_price_lem meet demand supply tradable gap better opening_price_lem uncross opening answer trades after reduced_by tallied at sum_to
 full-day-agrees = record { entries = refl; accounts = refl; queues = refl; sums = refl; standing = refl; running = refl }
 
-second-day-agrees : Agrees secondDay.script
+second-day-agrees : Agrees second_day.script
 unfolding average_price_lem meet demand supply tradable gap better opening_price_lem uncross opening answer trades after reduced_by tallied at sum_to
 second-day-agrees = record { entries = refl; accounts = refl; queues = refl; sums = refl; standing = refl; running = refl }
 
@@ -45,7 +45,7 @@ mixed-agrees : Agrees mixed.script
 unfolding average_price_lem meet demand supply tradable gap better opening_price_lem uncross opening answer trades after reduced_by tallied at sum_to
 mixed-agrees = record { entries = refl; accounts = refl; queues = refl; sums = refl; standing = refl; running = refl }
 
-mixed-tens-agrees : Agrees mixedTens.script
+mixed-tens-agrees : Agrees mixed_tens.script
 unfolding average_price_lem meet demand supply tradable gap better opening_price_lem uncross opening answer trades after reduced_by tallied at sum_to
 mixed-tens-agrees = record { entries = refl; accounts = refl; queues = refl; sums = refl; standing = refl; running = refl }
 

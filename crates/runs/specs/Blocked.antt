@@ -1,5 +1,6 @@
 -- A floor made over a register with something blocked cannot start.
-use Rattle.runs.specs.Words.{false, List, [], ◌∷◌, ByFloor}
+use Rattle.std.specs.Prelude.{◌∷◌}
+use Rattle.runs.specs.Words.{false, List, [], ByFloor}
 use Rattle.runs.specs.Words.{BadListing, SomethingBlocked, WrongSession}
 use Rattle.runs.specs.Words.{Start, Deposit, Open, Done}
 use Rattle.model.specs.declared.faults.CallKind.TheVariants as kind

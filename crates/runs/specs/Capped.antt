@@ -1,5 +1,6 @@
 -- A cap of 1,000 on currency 2, by a layer with the tag 9.
-use Rattle.runs.specs.Words.{true, List, [], ◌∷◌, Some, None, Buy, Sell, PreTrading, Trading, ByRule, ByRegister}
+use Rattle.std.specs.Prelude.{◌∷◌}
+use Rattle.runs.specs.Words.{true, List, [], Some, None, Buy, Sell, PreTrading, Trading, ByRule, ByRegister}
 use Rattle.runs.specs.Words.{OffBest, TooLittleFree, OverCap}
 use Rattle.runs.specs.Words.{Start, Place, Cancel, Open, Done, Cancelled, Opened}
 use Rattle.model.specs.declared.faults.CallKind.TheVariants as kind

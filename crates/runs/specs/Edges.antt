@@ -1,5 +1,6 @@
 -- One number left, and a full queue.
-use Rattle.runs.specs.Words.{false, List, [], ◌∷◌, Some, Buy, Sell, Trading, ByFloor}
+use Rattle.std.specs.Prelude.{◌∷◌}
+use Rattle.runs.specs.Words.{false, List, [], Some, Buy, Sell, Trading, ByFloor}
 use Rattle.runs.specs.Words.{ShortStrip, NumbersSpent, QueueFull}
 use Rattle.runs.specs.Words.{Place}
 use Rattle.model.specs.declared.faults.CallKind.TheVariants as kind

@@ -1,5 +1,6 @@
 -- A day under the corporate rule: every form of bid in every session, and most refusals.
-use Rattle.runs.specs.Words.{false, List, [], ◌∷◌, Some, None, Buy, Sell, Closed, PreTrading, Trading, PostTrading, ByFloor, ByRule, ByRegister}
+use Rattle.std.specs.Prelude.{◌∷◌}
+use Rattle.runs.specs.Words.{false, List, [], Some, None, Buy, Sell, Closed, PreTrading, Trading, PostTrading, ByFloor, ByRule, ByRegister}
 use Rattle.runs.specs.Words.{BadListing, WrongSession, ShortStrip, NoHolderOrTicker, BeyondLimits, FormNotTaken, NoAverage, NoSuchBid}
 use Rattle.runs.specs.Words.{OffBest, OffSettlement, NoAccount, BadAmount, OverTotal, TooLittleFree}
 use Rattle.runs.specs.Words.{Start, Deposit, Withdraw, Place, Cancel, Open, EndTrading, EndPostTrading, Done, Cancelled, Opened}

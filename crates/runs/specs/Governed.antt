@@ -1,5 +1,6 @@
 -- A day under the government rule.
-use Rattle.runs.specs.Words.{false, List, [], ◌∷◌, Some, None, Buy, Sell, PreTrading, Trading, PostTrading, ByRule}
+use Rattle.std.specs.Prelude.{◌∷◌}
+use Rattle.runs.specs.Words.{false, List, [], Some, None, Buy, Sell, PreTrading, Trading, PostTrading, ByRule}
 use Rattle.runs.specs.Words.{NotWholeSteps, OffBest, OppositeBid}
 use Rattle.runs.specs.Words.{Start, Place, Cancel, Open, EndTrading, EndPostTrading, Done, Cancelled, Opened}
 use Rattle.model.specs.declared.faults.CallKind.TheVariants as kind

@@ -1,5 +1,6 @@
 -- Calls drawn at random, corporate rule.
-use Rattle.runs.specs.Words.{false, List, [], ◌∷◌, Some, None, Buy, Sell, PreTrading, Trading, PostTrading, ByFloor, ByRule, ByRegister}
+use Rattle.std.specs.Prelude.{◌∷◌}
+use Rattle.runs.specs.Words.{false, List, [], Some, None, Buy, Sell, PreTrading, Trading, PostTrading, ByFloor, ByRule, ByRegister}
 use Rattle.runs.specs.Words.{NoSuchBid}
 use Rattle.runs.specs.Words.{OffBest, TooLittleFree}
 use Rattle.runs.specs.Words.{Start, Withdraw, Place, Cancel, Open, EndTrading, Done, Opened}

@@ -1,5 +1,6 @@
 -- Scripts of calls with the answers, trades and ends that an independent program worked out, and what it means that they agree.
-use Rattle.runs.specs.Words.{ℕ, zero, suc, ◌≡◌, Bool, true, false, cond, ◌&&◌, ltb, eqb, List, [], ◌∷◌, map, sum_of, length, Option}
+use Rattle.std.specs.Prelude.{◌≡◌, ◌&&◌, ◌∷◌}
+use Rattle.runs.specs.Words.{ℕ, zero, suc, Bool, true, false, cond, ltb, eqb, List, [], map, sum_of, length, Option}
 use Rattle.runs.specs.Words.{Side, Trading, Bid, Standing, Trade, Quote, Listing, Cause, CallKind, Call, Answer, Placed, Refused}
 use Rattle.model.specs.Words.{kept}
 use Rattle.model.specs.Average.{cost_of, lots_of}

@@ -1,5 +1,6 @@
 -- Openings of several tickers with ties, matching, averages, and a second day.
-use Rattle.runs.specs.Words.{false, List, [], ◌∷◌, Some, None, Buy, Sell, PreTrading, Trading, PostTrading, ByFloor}
+use Rattle.std.specs.Prelude.{◌∷◌}
+use Rattle.runs.specs.Words.{false, List, [], Some, None, Buy, Sell, PreTrading, Trading, PostTrading, ByFloor}
 use Rattle.runs.specs.Words.{NoAverage, NoSuchBid}
 use Rattle.runs.specs.Words.{Start, Place, Cancel, Open, EndTrading, EndPostTrading, Done, Cancelled, Opened}
 use Rattle.model.specs.declared.faults.CallKind.TheVariants as kind

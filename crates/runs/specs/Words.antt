@@ -1,5 +1,6 @@
 -- The words that scripts are written in.
-pub use Rattle.model.specs.Words.{ℕ, zero, suc, ◌+◌, ◌≡◌, Bool, true, false, cond, ◌&&◌, ltb, eqb, List, [], ◌∷◌, map, All, sum_of, length, Option, Some, None}
+use Rattle.std.specs.Prelude.{◌+◌, ◌≡◌, ◌&&◌, ◌∷◌}
+pub use Rattle.model.specs.Words.{ℕ, zero, suc, Bool, true, false, cond, ltb, eqb, List, [], map, AllByRecursion, sum_of, length, Option, Some, None}
 pub use Rattle.rules.specs.declared.bid.Side.{Side}
 pub use Rattle.rules.specs.declared.bid.Side.TheVariants.{Buy, Sell}
 pub use Rattle.rules.specs.declared.rule.RuleRefusal.TheVariants.{NotWholeSteps, OffBest, OffSettlement, OppositeBid}

@@ -1,4 +1,6 @@
 // Scripts of calls, compared with what an independent program worked out for them.
+#![tactic(auto)]
+
 ghost use Rattle.std.specs.Prelude.{◌≡◌};
 ghost use Rattle.runs.specs.Every.{EveryScriptAgrees, scripts};
 ghost use Rattle.runs.specs.Scripts.{call_count};

@@ -1,8 +1,8 @@
 -- The number that digits write.
-use Rattle.std.proofs.Common.{◌≡◌, ℕ, ◌+◌, ◌-◌, ◌*◌, ◌<◌, ◌≤◌, true, false, List, [], ◌∷◌, length, get_or, drop, Ok, Err, sym, refl, ap, ◌∙◌, arith}
+use Rattle.std.proofs.Common.{◌≡◌, ℕ, ◌+◌, ◌-◌, ◌*◌, ◌<◌, ◌≤◌, true, List, [], ◌∷◌, length, get_or, drop, Ok, Err, sym, ◌∙◌, arith}
 use Rattle.std.proofs.lemmas.List.{at_drop_more, at_drop_all}
 use Rattle.std.proofs.lemmas.Bool.Decides.{nat_tests}
-use Rattle.script.specs.declared.commands.LineFault.TheVariants.{NotANumber, TooLarge}
+use Rattle.script.specs.declared.commands.LineFault.TheVariants.{TooLarge}
 use Rattle.script.specs.Commands.{is_number, value, number_of}
 
 pub value_grows : (n : ℕ) (cs : List ℕ) → n ≤ value n cs

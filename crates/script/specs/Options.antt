@@ -1,5 +1,5 @@
 -- The program's options: what each word of its command line asks for.
-use Rattle.std.specs.Prelude.{ℕ, ◌+◌, Bool, true, false, cond, List, [], ◌∷◌, length, take, drop, replicate, Ok, Err, codes, Result, nat_lt, slice_set}
+use Rattle.std.specs.Prelude.{ℕ, ◌+◌, true, false, cond, List, length, take, drop, replicate, Ok, Err, codes, Result, nat_lt, slice_set}
 use Rattle.std.specs.List.{prefix_len}
 use Rattle.std.specs.Str.{bytes_eq}
 use Rattle.script.specs.declared.options.Kind.{Kind}

@@ -1,5 +1,5 @@
 -- What a call answers, and the line that tells it.
-use Rattle.std.specs.Prelude.{ℕ, Bool, true, false, cond, ◌&&◌, List, [], ◌∷◌, ◌++◌, Some, None, Ok, Err, codes, decimal, Option, Result, ◌==◌}
+use Rattle.std.specs.Prelude.{ℕ, cond, ◌&&◌, List, [], ◌++◌, Some, None, Ok, Err, codes, decimal, Option, Result, ◌==◌}
 use Rattle.register.specs.declared.faults.Account.{Account}
 use Rattle.register.specs.declared.faults.RegisterCause.{RegisterCause}
 use Rattle.register.specs.declared.faults.RegisterCause.TheVariants.{NoAccount, BadAmount, OverTotal, TooLittleFree, OverCap, TooLittleBlocked}

@@ -1,4 +1,6 @@
 // Lines of text as calls of a floor and looks at it, and the program's options.
+#![tactic(auto)]
+
 mod bids;
 pub mod commands;
 mod days;

@@ -79,7 +79,7 @@ impl Word for u64 {
 
 // What the next word writes, and what follows it.
 pub(crate) fn take<W: Word>(text: &[u8]) -> Result<(W, &[u8]), LineFault>
-    ensures { elim result [ Ok p ↦ taken reads (words_of text.now) ≡ Ok (p.0, words_of p.1.now) | Err e ↦ taken reads (words_of text.now) ≡ Err e ] }
+    ensures { elim result [ Ok p ↦ taken W.Word.reads (words_of text.now) ≡ Ok (p.0, words_of p.1.now) | Err e ↦ taken W.Word.reads (words_of text.now) ≡ Err e ] }
 {
     let Some((word, rest)) = take_word(text) else {
         return Err(LineFault::TooFewWords);

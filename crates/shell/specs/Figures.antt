@@ -1,5 +1,6 @@
 -- The checked figures of the two rules and of the functions on numbers, as one table.
-use Rattle.rules.specs.Words.{ℕ, List, [], ◌∷◌, ◌++◌}
+use Rattle.std.specs.Prelude.{◌∷◌, ◌++◌}
+use Rattle.rules.specs.Words.{ℕ, List, []}
 use Rattle.rules.specs.Rules.{Rule, corporate, government}
 use Rattle.rules.specs.Figures.{Row, row, figures}
 use Rattle.shell.specs.Terminal.{tested, numbers, obligation_number, beyond_limits_lem}

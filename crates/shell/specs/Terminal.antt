@@ -1,6 +1,7 @@
 -- The obligation and the rule tests on plain numbers, as a C program states them: a side is 0 for buy and 1 for sell, and a price of 0
 -- means none.
-use Rattle.rules.specs.Words.{ℕ, Bool, cond, not, ◌&&◌, leb, eqb, Option, Some, None}
+use Rattle.std.specs.Prelude.{◌&&◌}
+use Rattle.rules.specs.Words.{ℕ, Bool, cond, not, leb, eqb, Option, Some, None}
 use Rattle.rules.specs.declared.bid.Side.{Side}
 use Rattle.rules.specs.declared.bid.Side.TheVariants.{Buy, Sell}
 use Rattle.rules.specs.declared.bid.Question.{Question}

@@ -1,5 +1,7 @@
 // The obligation and the rule tests as functions on plain numbers, for the terminal's C shell. They take any numbers: a C caller is held
 // to nothing.
+#![tactic(auto)]
+
 ghost use Rattle.std.specs.Prelude.{◌≡◌, ◌≤◌, length};
 ghost use Rattle.rules.specs.Bids.{most_price};
 ghost use Rattle.rules.specs.Figures.{Hold};
@@ -64,7 +66,7 @@ fn is_question(numbers: Numbers) -> bool
 
 // The test of any rule.
 fn test<M: MarketRule>(rule: &M, asked: Numbers) -> u64
-    ensures { result ≡ tested (means rule.now) asked }
+    ensures { result ≡ tested (M.MarketRule.means rule.now) asked }
 {
     if !is_question(asked) {
         return BEYOND_LIMITS;

@@ -39,9 +39,9 @@ done_text_lem call.EndPostTrading = codes "post-trading-ended"
 
 abbrev pub session_text_lem : Session → List ℕ
 session_text_lem Closed = codes "closed"
-session_text_lem PreTrading = codes "pre_trading"
+session_text_lem PreTrading = codes "pre-trading"
 session_text_lem Trading = codes "trading"
-session_text_lem PostTrading = codes "post_trading"
+session_text_lem PostTrading = codes "post-trading"
 
 -- why a floor refuses
 abbrev pub floor_text_lem : FloorRefusal → List ℕ

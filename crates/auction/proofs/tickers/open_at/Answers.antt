@@ -8,8 +8,8 @@ loop-trade-init g c =
     let a = c.args in
     starts a.ticker a.price a.currency a.from (sheet_of a.book.now) (g.R.Register.means a.register.now) a.strip.now c.requires.ready
 
-pub auction-one-requires : goal.auction-one-requires
-auction-one-requires g c = record { granted = asks-grant c.loop-trade.invariant; sums = asks-sums c.loop-trade.invariant c.requires.ready.sums }
+pub auction_one-requires : goal.auction_one-requires
+auction_one-requires g c = record { granted = asks-grant c.loop-trade.invariant; sums = asks-sums c.loop-trade.invariant c.requires.ready.sums }
 
 pub bounds-strip-from : goal.bounds-strip-from
 bounds-strip-from g c = omega (arith, some_left c.loop-trade.invariant c.in-Some.trade c.in-Some.ensures.trade, c.requires.room)
@@ -20,10 +20,10 @@ loop-trade-smaller g c = omega (arith, some_left c.loop-trade.invariant c.in-Som
 pub loop-trade-preserved : goal.loop-trade-preserved
 loop-trade-preserved g c =
     let e = c.in-Some.ensures in
-    turned c.loop-trade.invariant c.in-Some.trade (sheet_of c.auction-one.new.book) (g.R.Register.means c.auction-one.new.register)
+    turned c.loop-trade.invariant c.in-Some.trade (sheet_of c.auction_one.new.book) (g.R.Register.means c.auction_one.new.register)
     (omega (arith, some_left c.loop-trade.invariant c.in-Some.trade e.trade, c.requires.room)) e.trade e.book e.sheet
 
 pub returns : goal.returns
 returns g c =
-    let e = c.in-default.ensures in
-    ended c.loop-trade.invariant (sheet_of c.auction-one.new.book) (g.R.Register.means c.auction-one.new.register) e.trade e.book e.sheet
+    let e = c.in_default.ensures in
+    ended c.loop-trade.invariant (sheet_of c.auction_one.new.book) (g.R.Register.means c.auction_one.new.register) e.trade e.book e.sheet

@@ -5,8 +5,8 @@ use Rattle.auction.specs.Openings.{Openable, Made}
 use Rattle.auction.proofs.Turning.{priced-opening, no-opening}
 use Rattle.auction.proofs.tickers.open_ticker.Goals as goal
 
-pub open-at-requires : goal.open-at-requires
-open-at-requires g c =
+pub open_at-requires : goal.open_at-requires
+open_at-requires g c =
     let a = c.args in
     let s = sheet_of a.book.now in
     let p = c.in-Some.ensures in
@@ -23,8 +23,8 @@ returns-in-Some g c =
     let means = g.R.Register.means in
     let p = c.in-Some.ensures in
     subst
-    (λ (o : Opened). Made a.currency a.from o s (means a.register.now) a.strip.now (sheet_of c.open-at.new.book) (means c.open-at.new.register) c.open-at.new.strip c.open-at.result)
-    (sym (priced-opening a.ticker c.in-Some.price s (cc))) c.open-at.ensures
+    (λ (o : Opened). Made a.currency a.from o s (means a.register.now) a.strip.now (sheet_of c.open_at.new.book) (means c.open_at.new.register) c.open_at.new.strip c.open_at.result)
+    (sym (priced-opening a.ticker c.in-Some.price s (cc))) c.open_at.ensures
 
 pub returns-in-None : goal.returns-in-None
 returns-in-None g c =

@@ -2,10 +2,10 @@ use Rattle.std.proofs.Common.{◌<◌, length, arith, rules}
 use Rattle.auction.proofs.Reaching.{lots-none, lots-first}
 use Rattle.auction.proofs.volumes.+lots_to.Goals as goal
 
-pub returns-then-is-empty : goal.returns-then-is-empty
-returns-then-is-empty t c = record { lots = lots-none c.args.bids.now c.args.place (search rules); within = search rules }
+pub returns-then-is_empty : goal.returns-then-is_empty
+returns-then-is_empty t c = record { lots = lots-none c.args.bids.now c.args.place (search rules); within = search rules }
 
 pub returns : goal.returns
 returns t c =
     let some : 0 < length c.args.bids.now = search rules in
-    record { lots = lots-first c.args.bids.now _ c.args.place c.lots-to.result (omega arith) some c.lots-to.ensures.lots; within = search rules }
+    record { lots = lots-first c.args.bids.now _ c.args.place c.lots_to.result (omega arith) some c.lots_to.ensures.lots; within = search rules }

@@ -6,4 +6,4 @@ use Rattle.auction.proofs.volumes.volume.Goals as goal
 pub returns : goal.returns
 returns c =
     let a = c.args in
-    c.lots-to.ensures.lots ∙ ap (λ (n : ℕ). sum_of (λ x. x.lots) (take n a.bids.now)) c.reach.ensures.place ∙ volume-front a.side a.price a.bids.now c.requires.ranked
+    c.lots_to.ensures.lots ∙ ap (λ (n : ℕ). sum_of (λ x. x.lots) (take n a.bids.now)) c.reach.ensures.place ∙ volume-front a.side a.price a.bids.now c.requires.ranked

@@ -7,5 +7,5 @@ pub returns : goal.returns
 returns g c =
     let a = c.args in
     let k : (a.used + c.min.result) - a.used ≡ min (room_of_lem a.call) (length a.tape.now - a.used) =
-    omega (arith, c.min.ensures ∙ ap (λ (n : ℕ). min n (length a.tape.now - a.used)) c.room-of.ensures) in
-    lent-made g.R.Register.means g.M.MarketRule.means a.call a.floor.now c.make-call.new.floor a.tape.now c.make-call.new.strip a.used ((a.used + c.min.result) - a.used) c.make-call.result (g.met.M.MarketRule.lawful a.floor.now.rule) c.requires.sound c.requires.used k c.make-call.ensures
+    omega (arith, c.min.ensures ∙ ap (λ (n : ℕ). min n (length a.tape.now - a.used)) c.room_of.ensures) in
+    lent-made g.R.Register.means g.M.MarketRule.means a.call a.floor.now c.make_call.new.floor a.tape.now c.make_call.new.strip a.used ((a.used + c.min.result) - a.used) c.make_call.result (g.met.M.MarketRule.lawful a.floor.now.rule) c.requires.sound c.requires.used k c.make_call.ensures

@@ -1,4 +1,4 @@
-use Rattle.std.proofs.Common.{◌≡◌, length, sym, subst}
+use Rattle.std.proofs.Common.{length, sym, subst}
 use Rattle.model.specs.declared.words.Session.{Session}
 use Rattle.model.specs.declared.calls.Call.TheVariants.{Place}
 use Rattle.floor_calls.specs.Making.{Made}
@@ -8,5 +8,5 @@ use Rattle.floor_calls.proofs.runner.place.Goals as goal
 pub returns-in-Closed : goal.returns-in-Closed
 returns-in-Closed g c =
     let a = c.args in
-    subst (λ (s : Session). Made g.R.Register.means g.M.MarketRule.means (Place s a.bid (length a.strip.now)) a.floor.now a.floor.now a.strip.now a.strip.now c.no-pass.result) (sym c.in-Closed.is)
-    (no-pass-bid g.R.Register.means g.M.MarketRule.means a.floor.now a.strip.now c.requires a.bid (length a.strip.now) c.no-pass.result c.no-pass.ensures)
+    subst (λ (s : Session). Made g.R.Register.means g.M.MarketRule.means (Place s a.bid (length a.strip.now)) a.floor.now a.floor.now a.strip.now a.strip.now c.no_pass.result) (sym c.in-Closed.is)
+    (no-pass-bid g.R.Register.means g.M.MarketRule.means a.floor.now a.strip.now c.requires a.bid (length a.strip.now) c.no_pass.result c.no_pass.ensures)

@@ -1,4 +1,4 @@
-use Rattle.std.proofs.Common.{◌≡◌, ℕ, ◌+◌, ◌<◌, ◌≤◌, length, take, set, sym, refl, ap, ◌∙◌, subst, arith}
+use Rattle.std.proofs.Common.{ℕ, ◌+◌, ◌≤◌, length, take, set, sym, refl, ap, ◌∙◌, subst, arith}
 use Rattle.std.proofs.lemmas.List.{length-take-le}
 use Rattle.queues.proofs.Heads.{read-front}
 use Rattle.floor_calls.specs.Floors.{seen}
@@ -10,17 +10,17 @@ loop-i-init g c =
     let a = c.args in
     (going_start (g.M.MarketRule.means a.floor.now.rule) (seen g.R.Register.means a.floor.now) (take c.min-limit.result a.calls.now) a.answers.now a.tape.now, refl, c.requires)
 
-pub lend-call-answer-requires : goal.lend-call-answer-requires
-lend-call-answer-requires g c =
+pub lend_call-answer-requires : goal.lend_call-answer-requires
+lend_call-answer-requires g c =
     let l = c.loop-i in
     record { sound = l.invariant.2; used = omega (arith, l.invariant.0.within, l.auto.tape) }
 
-pub overflow-add-used : goal.overflow-add-used
-overflow-add-used g c =
+pub overflow_add-used : goal.overflow_add-used
+overflow_add-used g c =
     let l = c.loop-i in
-    let e = c.lend-call-answer in
+    let e = c.lend_call-answer in
     let n = tape-left g.R.Register.means g.M.MarketRule.means _ l.used l.floor e.new.floor l.tape e.new.tape e.result e.ensures in
-    omega (arith, c.count-of-used.ensures, n)
+    omega (arith, c.count_of-used.ensures, n)
 
 pub loop-i-preserved : goal.loop-i-preserved
 loop-i-preserved g c =
@@ -31,9 +31,9 @@ loop-i-preserved g c =
     let limit = c.min-limit.result in
     let short : limit ≤ length a.calls.now = omega (arith, c.min-limit.ensures) in
     let n = length-take-le limit a.calls.now short in
-    let e = c.lend-call-answer in
+    let e = c.lend_call-answer in
     let next = going-made k m _ l.used l.floor e.new.floor l.tape e.new.tape e.result e.ensures (m a.floor.now.rule) (ap m l.invariant.1) (seen k a.floor.now) (take limit a.calls.now) a.answers.now l.answers a.tape.now l.i l.invariant.0 l.auto.tape (read-front a.calls.now limit l.i _ short c.loop-i-test.true _) (omega arith) (omega (arith, c.min-limit.ensures, l.auto.answers)) in (
-      subst (λ (i : ℕ). Going (m a.floor.now.rule) (seen k a.floor.now) (take limit a.calls.now) a.answers.now a.tape.now (l.i + 1) (l.used + i) (seen k e.new.floor) (set l.answers l.i e.result) e.new.tape) (sym c.count-of-used.ensures) next,
+      subst (λ (i : ℕ). Going (m a.floor.now.rule) (seen k a.floor.now) (take limit a.calls.now) a.answers.now a.tape.now (l.i + 1) (l.used + i) (seen k e.new.floor) (set l.answers l.i e.result) e.new.tape) (sym c.count_of-used.ensures) next,
       e.ensures.kept ∙ l.invariant.1,
       e.ensures.sound,
     )

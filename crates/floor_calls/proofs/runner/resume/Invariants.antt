@@ -1,4 +1,4 @@
-use Rattle.std.proofs.Common.{◌≡◌, length, take}
+use Rattle.std.proofs.Common.{◌≡◌, take}
 use Rattle.floor_calls.specs.Floors.{seen, SoundFloor}
 use Rattle.floor_calls.proofs.Listed.{Going}
 use Rattle.floor_calls.proofs.runner.resume.Given as goal

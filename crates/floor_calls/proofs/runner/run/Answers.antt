@@ -1,4 +1,4 @@
-use Rattle.std.proofs.Common.{◌≡◌, ℕ, min, length, take, sym, refl, ap, ◌∙◌, subst}
+use Rattle.std.proofs.Common.{◌≡◌, ℕ, length, take, ap, ◌∙◌, subst}
 use Rattle.rules.specs.Rules.{Rule}
 use Rattle.model.specs.World.{World, made}
 use Rattle.floor_calls.specs.Floors.{seen}

@@ -12,8 +12,8 @@ returns g c =
     e.new.answers a.tape.now e.new.tape c.requires.room e.ensures.made e.ensures.ran in
     record {
       answer = m.answers;
-      count = omega (arith, c.count-of.ensures, m.count);
-      trades = ap (λ i. take i e.new.tape) c.count-of.ensures ∙ m.traded;
+      count = omega (arith, c.count_of.ensures, m.count);
+      trades = ap (λ i. take i e.new.tape) c.count_of.ensures ∙ m.traded;
       world = m.world;
       rule = e.ensures.rule;
       sound = e.ensures.sound;

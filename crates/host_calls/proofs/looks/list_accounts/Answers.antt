@@ -5,4 +5,4 @@ pub loop-holder-init : goal.loop-holder-init
 loop-holder-init g c = below_none _ _
 
 pub loop-holder-preserved : goal.loop-holder-preserved
-loop-holder-preserved g c = below_more _ _ _ _ _ c.loop-holder.invariant c.in-ok-list-holder.ensures
+loop-holder-preserved g c = below_more _ _ _ _ _ c.loop-holder.invariant c.in_ok-list_holder.ensures

@@ -5,8 +5,8 @@ use Rattle.matching.proofs.closing.void_books.Goals as goal
 pub loop-i-init : goal.loop-i-init
 loop-i-init g c = voiding-start c.args.listing.now c.args.books.now (g.R.Register.means c.args.register.now) c.requires.eight c.requires.granted
 
-pub void-book-requires : goal.void-book-requires
-void-book-requires g c =
+pub void_book-requires : goal.void_book-requires
+void_book-requires g c =
     let a = c.args in
     let l = c.loop-i in
     let k = g.R.Register.means in
@@ -17,7 +17,7 @@ loop-i-preserved g c =
     let a = c.args in
     let l = c.loop-i in
     let k = g.R.Register.means in
-    voiding-more a.listing.now l.i a.books.now l.books (k a.register.now) (k l.register) c.requires.eight (omega arith) c.index-books-i.result l.invariant c.void-book.new.book (k c.void-book.new.register) c.void-book.ensures.sheet c.void-book.ensures.book
+    voiding-more a.listing.now l.i a.books.now l.books (k a.register.now) (k l.register) c.requires.eight (omega arith) c.index-books-i.result l.invariant c.void_book.new.book (k c.void_book.new.register) c.void_book.ensures.sheet c.void_book.ensures.book
 
 pub returns : goal.returns
 returns g c =

@@ -11,13 +11,13 @@ face-count-requires g c =
       room = c.requires.strip;
     }
 
-pub overflow-sub-newcomer : goal.overflow-sub-newcomer
-overflow-sub-newcomer g c =
+pub overflow_sub-newcomer : goal.overflow_sub-newcomer
+overflow_sub-newcomer g c =
     let a = c.args in
     left-within a.session a.newcomer.now a.outlook (sheet_of a.book.now) (g.R.Register.means a.register.now) a.slip (length a.strip.now) c.requires
 
-pub count-trades-requires : goal.count-trades-requires
-count-trades-requires g c =
+pub count_trades-requires : goal.count_trades-requires
+count_trades-requires g c =
     let a = c.args in
     let k = g.R.Register.means in
     let f = c.face-count in
@@ -30,10 +30,10 @@ lodge-requires g c =
     let a = c.args in
     let k = g.R.Register.means in
     let f = c.face-count in
-    place-left a.session a.newcomer.now a.outlook (sheet_of a.book.now) (k a.register.now) a.slip (length a.strip.now) c.requires (sheet_of f.new.book) (k f.new.register) a.strip.now f.new.strip f.new.slip f.result f.ensures c.rest-rest.result (sheet_of c.count-trades.new.book) c.rest-rest.ensures c.count-trades.ensures
+    place-left a.session a.newcomer.now a.outlook (sheet_of a.book.now) (k a.register.now) a.slip (length a.strip.now) c.requires (sheet_of f.new.book) (k f.new.register) a.strip.now f.new.strip f.new.slip f.result f.ensures c.rest-rest.result (sheet_of c.count_trades.new.book) c.rest-rest.ensures c.count_trades.ensures
 
-pub settle-rest-requires : goal.settle-rest-requires
-settle-rest-requires g c =
+pub settle_rest-requires : goal.settle_rest-requires
+settle_rest-requires g c =
     let a = c.args in
     let k = g.R.Register.means in
     let f = c.face-count in
@@ -44,4 +44,4 @@ returns g c =
     let a = c.args in
     let k = g.R.Register.means in
     let f = c.face-count in
-    entered a.session a.newcomer.now a.outlook (sheet_of a.book.now) (k a.register.now) a.slip (length a.strip.now) c.requires (sheet_of f.new.book) (k f.new.register) a.strip.now f.new.strip f.new.slip f.result f.ensures c.rest-rest.result (sheet_of c.count-trades.new.book) (sheet_of c.lodge.new.book) (k c.settle-rest.new.register) c.rest-rest.ensures c.count-trades.ensures c.lodge.ensures c.settle-rest.ensures
+    entered a.session a.newcomer.now a.outlook (sheet_of a.book.now) (k a.register.now) a.slip (length a.strip.now) c.requires (sheet_of f.new.book) (k f.new.register) a.strip.now f.new.strip f.new.slip f.result f.ensures c.rest-rest.result (sheet_of c.count_trades.new.book) (sheet_of c.lodge.new.book) (k c.settle_rest.new.register) c.rest-rest.ensures c.count_trades.ensures c.lodge.ensures c.settle_rest.ensures

@@ -1,4 +1,4 @@
-use Rattle.std.proofs.Common.{◌-◌, ◌≤◌, length, sym, arith, rules}
+use Rattle.std.proofs.Common.{◌-◌, sym, rules}
 use Rattle.std.proofs.lemmas.List.{get_or_past}
 use Rattle.model.specs.Listings.{no_quote}
 use Rattle.matching.proofs.listings.quote.Goals as goal

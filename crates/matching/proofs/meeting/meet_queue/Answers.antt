@@ -1,8 +1,8 @@
-use Rattle.std.proofs.Common.{◌≡◌, ℕ, ◌+◌, ◌-◌, ◌<◌, ◌≤◌, List, length, take, sym, refl, subst, arith, length-set, rules}
+use Rattle.std.proofs.Common.{◌-◌, ◌<◌, List, length, take, sym, refl, subst, arith, length-set}
 use Rattle.std.proofs.lemmas.List.{take_more_set}
 use Rattle.model.specs.declared.words.Trade.{Trade}
 use Rattle.queues.specs.Entries.{entries}
-use Rattle.matching.proofs.Turns.{Turn, Turned, turn-start, turned, swept, few, behind_more}
+use Rattle.matching.proofs.Turns.{Turn, turn-start, turned, swept, few, behind_more}
 use Rattle.matching.proofs.meeting.meet_queue.Goals as goal
 
 pub loop-trade-init : goal.loop-trade-init
@@ -17,7 +17,7 @@ bounds-strip-count g c =
     let l = c.loop-trade in
     let k = g.R.Register.means in
     let o = c.in-Some.ensures in
-    let t = turned a.newcomer.now (entries a.queue.now) (entries l.queue) (entries c.meet-first.new.queue) (k a.register.now) (k l.register) (k c.meet-first.new.register) l.slip c.meet-first.new.slip l.left (take l.count l.strip) c.in-Some.trade l.invariant.0 o.answer o.book o.queue o.slip in
+    let t = turned a.newcomer.now (entries a.queue.now) (entries l.queue) (entries c.meet_first.new.queue) (k a.register.now) (k l.register) (k c.meet_first.new.register) l.slip c.meet_first.new.slip l.left (take l.count l.strip) c.in-Some.trade l.invariant.0 o.answer o.book o.queue o.slip in
     omega (arith, t.fewer, l.invariant.2)
 
 pub loop-trade-smaller : goal.loop-trade-smaller
@@ -26,7 +26,7 @@ loop-trade-smaller g c =
     let l = c.loop-trade in
     let k = g.R.Register.means in
     let o = c.in-Some.ensures in
-    let t = turned a.newcomer.now (entries a.queue.now) (entries l.queue) (entries c.meet-first.new.queue) (k a.register.now) (k l.register) (k c.meet-first.new.register) l.slip c.meet-first.new.slip l.left (take l.count l.strip) c.in-Some.trade l.invariant.0 o.answer o.book o.queue o.slip in
+    let t = turned a.newcomer.now (entries a.queue.now) (entries l.queue) (entries c.meet_first.new.queue) (k a.register.now) (k l.register) (k c.meet_first.new.register) l.slip c.meet_first.new.slip l.left (take l.count l.strip) c.in-Some.trade l.invariant.0 o.answer o.book o.queue o.slip in
     omega (arith, t.fewer)
 
 pub loop-trade-preserved : goal.loop-trade-preserved
@@ -35,11 +35,11 @@ loop-trade-preserved g c =
     let l = c.loop-trade in
     let k = g.R.Register.means in
     let o = c.in-Some.ensures in
-    let t = turned a.newcomer.now (entries a.queue.now) (entries l.queue) (entries c.meet-first.new.queue) (k a.register.now) (k l.register) (k c.meet-first.new.register) l.slip c.meet-first.new.slip l.left (take l.count l.strip) c.in-Some.trade l.invariant.0 o.answer o.book o.queue o.slip in
+    let t = turned a.newcomer.now (entries a.queue.now) (entries l.queue) (entries c.meet_first.new.queue) (k a.register.now) (k l.register) (k c.meet_first.new.register) l.slip c.meet_first.new.slip l.left (take l.count l.strip) c.in-Some.trade l.invariant.0 o.answer o.book o.queue o.slip in
     let room : l.count < length l.strip = omega (arith, t.fewer, l.invariant.2) in
     let done = take_more_set l.strip l.count c.in-Some.trade room in
     let len = length-set l.strip l.count c.in-Some.trade in (
-      subst (λ (ts : List Trade). Turn a.newcomer.now (entries a.queue.now) (entries c.meet-first.new.queue) (k a.register.now) (k c.meet-first.new.register) c.meet-first.new.slip (l.left - c.in-Some.trade.lots) ts) (sym done) t.turn,
+      subst (λ (ts : List Trade). Turn a.newcomer.now (entries a.queue.now) (entries c.meet_first.new.queue) (k a.register.now) (k c.meet_first.new.register) c.meet_first.new.slip (l.left - c.in-Some.trade.lots) ts) (sym done) t.turn,
       behind_more l.strip a.strip.now l.count c.in-Some.trade l.invariant.1,
       omega (arith, t.fewer, l.invariant.2),
     )
@@ -49,5 +49,5 @@ returns g c =
     let a = c.args in
     let l = c.loop-trade in
     let k = g.R.Register.means in
-    let o = c.in-default.ensures in
-    swept a.newcomer.now (entries a.queue.now) (entries l.queue) (entries c.meet-first.new.queue) (k a.register.now) (k l.register) (k c.meet-first.new.register) l.slip c.meet-first.new.slip l.left l.count a.strip.now l.strip l.invariant.0 l.invariant.1 (omega (arith, l.invariant.2)) o.answer o.book o.queue o.slip
+    let o = c.in_default.ensures in
+    swept a.newcomer.now (entries a.queue.now) (entries l.queue) (entries c.meet_first.new.queue) (k a.register.now) (k l.register) (k c.meet_first.new.register) l.slip c.meet_first.new.slip l.left l.count a.strip.now l.strip l.invariant.0 l.invariant.1 (omega (arith, l.invariant.2)) o.answer o.book o.queue o.slip

@@ -7,6 +7,6 @@ use Rattle.std.proofs.lemmas.Bool.Decides.{Decides-eqb}
 pub returns : goal.returns
 unfolding same_word
 returns c =
-    let d = slice_eq-Decides Decides-eqb _ _ _ c.eq.ensures in
+    let d = slice_eq-Decides Decides-eqb c.args.word.now c.args.other.now _ c.eq.ensures in
     let s = bytes_eq-Decides c.args.word.now c.args.other.now in
     search rules

@@ -11,5 +11,5 @@ line-is n m a b t p q e f g = λ i. line (e i) (f i) t (g i)
 pub returns : goal.returns
 returns c =
     IfOk-weaker c.format.result _ _
-    (λ s e. e ∙ line-is _ _ _ _ _ _ _ c.number-number.ensures c.call-text-name.ensures (c.as-str-place.ensures.value ∙ c.in-ok-place.ensures))
+    (λ s e. e ∙ line-is _ _ _ _ _ _ _ c.number-number.ensures c.call_text-name.ensures (c.as_str-place.ensures.value ∙ c.in_ok-place.ensures))
     c.format.ensures.ok

@@ -1,4 +1,4 @@
-use Rattle.std.proofs.Common.{refl, rules}
+use Rattle.std.proofs.Common.{refl}
 use Rattle.floor.proofs.Filed.{refiled}
 use Rattle.floor.proofs.desk.Desk.set_book.Goals as goal
 

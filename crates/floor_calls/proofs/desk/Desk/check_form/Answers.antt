@@ -6,11 +6,11 @@ use Rattle.floor_calls.proofs.desk.Desk.check_form.Goals as goal
 
 pub returns : goal.returns
 returns c =
-    let session = (allowed-met c.args.self.now.session (Bid c.args.shown) _ c.in-ok-allowed.ensures).0 in
-    let room = kept-met _ _ _ c.in-ok-check.ensures in
-    let known = sym c.is-known.ensures ∙ kept-met _ _ _ c.in-ok-check-2.ensures in
-    let limits = sym c.is-within-limits.ensures ∙ kept-met _ _ _ c.in-ok-check-3.ensures in
-    let form = sym c.is-taken.ensures ∙ kept-met _ _ _ c.in-ok-check-4.ensures in
-    let average = sym c.has-average.ensures ∙ kept-met _ _ _ c.in-ok-check-5.ensures in
+    let session = (allowed-met c.args.self.now.session (Bid c.args.shown) _ c.in_ok-allowed.ensures).0 in
+    let room = kept-met _ _ _ c.in_ok-check.ensures in
+    let known = sym c.is_known.ensures ∙ kept-met _ _ _ c.in_ok-check-2.ensures in
+    let limits = sym c.is_within_limits.ensures ∙ kept-met _ _ _ c.in_ok-check-3.ensures in
+    let form = sym c.is_taken.ensures ∙ kept-met _ _ _ c.in_ok-check-4.ensures in
+    let average = sym c.has_average.ensures ∙ kept-met _ _ _ c.in_ok-check-5.ensures in
     pass _ _ _ _ session (pass _ _ _ _ room (pass _ _ _ _ known (pass _ _ _ _ limits (pass _ _ _ _ form (pass _ _ _ _ average
     (ap cause_of c.check-6.ensures ∙ kept-cause _ _ ∙ last-check _))))))

@@ -4,8 +4,8 @@ use Rattle.queues.specs.Sheets.{sheets_of}
 use Rattle.floor_calls.proofs.Outlined.{average-within}
 use Rattle.floor_calls.proofs.desk.Desk.limit.Goals as goal
 
-pub overflow-cast-result : goal.overflow-cast-result
-overflow-cast-result c =
+pub overflow_cast-result : goal.overflow_cast-result
+overflow_cast-result c =
     let s = sheets_of c.args.self.now.books c.args.bid.now.ticker in
     let h = average-within s.worth s.traded c.in-Some.price (c.in-Some.ensures ∙ ap (λ (x : Sheet). average_of x) c.book.ensures) c.requires.dearest in
     omega arith

@@ -1,4 +1,4 @@
-use Rattle.std.proofs.Common.{◌≡◌, ◌<◌, sym, ap, ◌∙◌, arith}
+use Rattle.std.proofs.Common.{sym, arith}
 use Rattle.floor_calls.proofs.Starting.{sum-none, sum_more, sum-some}
 use Rattle.floor_calls.proofs.desk.filing.is_free.Goals as goal
 

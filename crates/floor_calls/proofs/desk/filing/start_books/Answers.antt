@@ -1,16 +1,14 @@
-use Rattle.std.proofs.Common.{◌≡◌, ℕ, List, map, length, get_or, set, sym, refl, ap, ◌∙◌, add-one, arith}
-use Rattle.std.proofs.lemmas.List.{map-set, length-map, get_or-map}
-use Rattle.model.specs.World.{Sheet, blank_sheet}
+use Rattle.std.proofs.Common.{◌≡◌, map, length, refl, ◌∙◌, arith}
+use Rattle.std.proofs.lemmas.List.{length-map}
 use Rattle.model.specs.Calls.{new_day}
-use Rattle.queues.specs.declared.books.TickerBook.{TickerBook}
 use Rattle.queues.specs.Sheets.{sheet_of}
-use Rattle.queues.proofs.Filed.{changed, changed-all, sheets-mapped, changed-next}
+use Rattle.queues.proofs.Filed.{changed-all, sheets-mapped, changed-next}
 use Rattle.floor_calls.proofs.desk.filing.start_books.Goals as goal
 
 pub loop-book-preserved : goal.loop-book-preserved
 loop-book-preserved c =
     let l = c.loop-book in
-    changed-next new_day l.book-index c.args.books.now l.books c.book-item.result c.start-day.new.self (omega arith) (omega arith) l.invariant c.start-day.ensures
+    changed-next new_day l.book-index c.args.books.now l.books c.book-item.result c.start_day.new.self (omega arith) (omega arith) l.invariant c.start_day.ensures
 
 pub returns : goal.returns
 returns c =

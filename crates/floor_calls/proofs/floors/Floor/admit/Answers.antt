@@ -1,5 +1,5 @@
-use Rattle.std.proofs.Common.{◌≡◌, ◌-◌, length, sym, refl, ap, ◌∙◌, length-set}
-use Rattle.queues.specs.Sheets.{sheet_of, sheets_of}
+use Rattle.std.proofs.Common.{◌-◌, length, refl, length-set}
+use Rattle.queues.specs.Sheets.{sheets_of}
 use Rattle.matching.proofs.Facing.{left-within}
 use Rattle.floor_calls.proofs.Bidden.{enters-here, entered_here, refiled-here}
 use Rattle.floor_calls.proofs.floors.Floor.admit.Goals as goal
@@ -10,8 +10,8 @@ enter-count-requires g c =
     let f = a.self.now in
     enters-here f.desk.session a.newcomer.now a.outlook f.desk.books c.index-self-place.result c.requires.eight c.requires.known (g.R.Register.means f.register) a.slip (length a.strip.now) c.requires.enters
 
-pub overflow-sub-result : goal.overflow-sub-result
-overflow-sub-result g c =
+pub overflow_sub-result : goal.overflow_sub-result
+overflow_sub-result g c =
     let a = c.args in
     let f = a.self.now in
     left-within f.desk.session a.newcomer.now a.outlook (sheets_of f.desk.books a.newcomer.now.bid.ticker) (g.R.Register.means f.register) a.slip (length a.strip.now) c.requires.enters

@@ -1,4 +1,4 @@
-use Rattle.std.proofs.Common.{◌≡◌, ℕ, ◌≤◌, true, leb, List, length, sym, refl, ap, ◌∙◌, subst, arith}
+use Rattle.std.proofs.Common.{◌≡◌, true, leb, length, sym, refl, ap, ◌∙◌, arith}
 use Rattle.std.proofs.lemmas.Bool.Decides.{nat_tests}
 use Rattle.std.proofs.lemmas.Result.{err_from_is_err_and}
 use Rattle.model.specs.declared.calls.Call.TheVariants.{Open}
@@ -16,51 +16,51 @@ use Rattle.floor_calls.proofs.Called.{after-refused, after-taken, refused-result
 use Rattle.floor_calls.proofs.OpenedFloor.{session-refuses, strip-refuses, open-taken, none-fair}
 use Rattle.floor_calls.proofs.floors.Floor.auction.Goals as goal
 
-pub returns-in-err-session : goal.returns-in-err-session
-returns-in-err-session g c =
+pub returns-in_err-session : goal.returns-in_err-session
+returns-in_err-session g c =
     let a = c.args in
     let r = g.M.MarketRule.means a.self.now.rule in
     let w = seen g.R.Register.means a.self.now in
     let room = length a.strip.now in
-    let p = err_from_is_err_and c.from-residual.result c.from-residual.ensures.1 in
-    let not = allowed-not w.session event.Open c.in-err-session.field-0.0 c.in-err-session.ensures in
+    let p = err_from_is_err_and c.from_residual.result c.from_residual.ensures.1 in
+    let not = allowed-not w.session event.Open c.in_err-session.field-0.0 c.in_err-session.ensures in
     let no = session-refuses r w room not.0 in
     record {
-      answer = refused-result r w (Open room) (length (trades_made w (Open room))) c.from-residual.result p.0 (ByFloor WrongSession) no p.1 (p.2 ∙ ap (λ (e : FloorRefusal). ByFloor e) not.1);
+      answer = refused-result r w (Open room) (length (trades_made w (Open room))) c.from_residual.result p.0 (ByFloor WrongSession) no p.1 (p.2 ∙ ap (λ (e : FloorRefusal). ByFloor e) not.1);
       world = sym (after-refused r w (Open room) (ByFloor WrongSession) no);
       strip = refused-strip r w (Open room) (ByFloor WrongSession) a.strip.now no;
       rule = refl;
       eight = c.requires.eight;
-      fair = none-fair w c.from-residual.result p.0 a.strip.now p.1;
+      fair = none-fair w c.from_residual.result p.0 a.strip.now p.1;
     }
 
-pub returns-in-err-check : goal.returns-in-err-check
-returns-in-err-check g c =
+pub returns-in_err-check : goal.returns-in_err-check
+returns-in_err-check g c =
     let a = c.args in
     let r = g.M.MarketRule.means a.self.now.rule in
     let w = seen g.R.Register.means a.self.now in
     let room = length a.strip.now in
-    let p = err_from_is_err_and c.from-residual-in-err-check.result c.from-residual-in-err-check.ensures.1 in
-    let ok = allowed-met w.session event.Open _ c.in-ok-session.ensures in
-    let not = kept-not _ ShortStrip c.in-err-check.field-0.0 c.in-err-check.ensures in
+    let p = err_from_is_err_and c.from_residual-in_err-check.result c.from_residual-in_err-check.ensures.1 in
+    let ok = allowed-met w.session event.Open _ c.in_ok-session.ensures in
+    let not = kept-not _ ShortStrip c.in_err-check.field-0.0 c.in_err-check.ensures in
     let no = strip-refuses r w room ok.0 not.0 in
     record {
-      answer = refused-result r w (Open room) (length (trades_made w (Open room))) c.from-residual-in-err-check.result p.0 (ByFloor ShortStrip) no p.1 (p.2 ∙ ap (λ (e : FloorRefusal). ByFloor e) not.1);
+      answer = refused-result r w (Open room) (length (trades_made w (Open room))) c.from_residual-in_err-check.result p.0 (ByFloor ShortStrip) no p.1 (p.2 ∙ ap (λ (e : FloorRefusal). ByFloor e) not.1);
       world = sym (after-refused r w (Open room) (ByFloor ShortStrip) no);
       strip = refused-strip r w (Open room) (ByFloor ShortStrip) a.strip.now no;
       rule = refl;
       eight = c.requires.eight;
-      fair = none-fair w c.from-residual-in-err-check.result p.0 a.strip.now p.1;
+      fair = none-fair w c.from_residual-in_err-check.result p.0 a.strip.now p.1;
     }
 
-pub open-books-count-requires : goal.open-books-count-requires
-open-books-count-requires g c =
+pub open_books-count-requires : goal.open_books-count-requires
+open_books-count-requires g c =
     let a = c.args in
     let r = g.M.MarketRule.means a.self.now.rule in
     let w = seen g.R.Register.means a.self.now in
     let room = length a.strip.now in
-    let ok = allowed-met w.session event.Open _ c.in-ok-session.ensures in
-    let long : leb opening_room room ≡ true = kept-met _ _ _ c.in-ok-check.ensures in
+    let ok = allowed-met w.session event.Open _ c.in_ok-session.ensures in
+    let long : leb opening_room room ≡ true = kept-met _ _ _ c.in_ok-check.ensures in
     let yes = open-taken r w room ok.0 long in
     record { eight = c.requires.eight; room = grind (arith, nat_tests); ready = ready-to-open r w c.requires.sound (is-pre r w room yes) }
 
@@ -70,14 +70,14 @@ returns g c =
     let r = g.M.MarketRule.means a.self.now.rule in
     let w = seen g.R.Register.means a.self.now in
     let room = length a.strip.now in
-    let ok = allowed-met w.session event.Open _ c.in-ok-session.ensures in
-    let yes = open-taken r w room ok.0 (kept-met _ _ _ c.in-ok-check.ensures) in
-    let e = c.open-books-count.ensures in
+    let ok = allowed-met w.session event.Open _ c.in_ok-session.ensures in
+    let yes = open-taken r w room ok.0 (kept-met _ _ _ c.in_ok-check.ensures) in
+    let e = c.open_books-count.ensures in
     record {
-      answer = taken-result r w (Open room) (length (trades_made w (Open room))) c.open-books-count.result yes e.count;
+      answer = taken-result r w (Open room) (length (trades_made w (Open room))) c.open_books-count.result yes e.count;
       world = (λ i. record { book = e.book i; session = ok.1 i; listing = w.listing; given = w.given; sheets = e.sheets i }) ∙ sym (after-taken r w (Open room) yes);
-      strip = taken-strip r w (Open room) a.strip.now c.open-books-count.new.strip yes e.strip;
+      strip = taken-strip r w (Open room) a.strip.now c.open_books-count.new.strip yes e.strip;
       rule = refl;
-      eight = c.open-books-count.auto.books ∙ c.requires.eight;
+      eight = c.open_books-count.auto.books ∙ c.requires.eight;
       fair = e.fair;
     }

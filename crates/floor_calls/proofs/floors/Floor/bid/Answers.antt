@@ -1,12 +1,10 @@
-use Rattle.std.proofs.Common.{◌≡◌, List, ◌++◌, length, drop, sym, refl, ap, ◌∙◌}
+use Rattle.std.proofs.Common.{◌++◌, length, drop, refl, ap, ◌∙◌}
 use Rattle.model.specs.declared.words.Session.{Session}
-use Rattle.model.specs.declared.words.Trade.{Trade}
 use Rattle.model.specs.declared.calls.Call.{Call}
 use Rattle.model.specs.declared.calls.Call.TheVariants.{Place}
-use Rattle.model.specs.Checks.{why}
 use Rattle.model.specs.Calls.{answer, after, trades, receipt}
 use Rattle.floor_calls.specs.Floors.{seen}
-use Rattle.floor_calls.specs.Replies.{placed, unless}
+use Rattle.floor_calls.specs.Replies.{placed}
 use Rattle.floor_calls.proofs.Called.{placed-answer, still-sound}
 use Rattle.floor_calls.proofs.Bargained.{bargained}
 use Rattle.floor_calls.proofs.floors.Floor.bid.Goals as goal

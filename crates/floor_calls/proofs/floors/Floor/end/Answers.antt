@@ -1,7 +1,6 @@
-use Rattle.std.proofs.Common.{◌≡◌, Bool, cond, sym, refl, ap, ◌∙◌}
+use Rattle.std.proofs.Common.{Bool, sym, refl, ap, ◌∙◌}
 use Rattle.std.proofs.lemmas.Bool.{cond-true}
 use Rattle.model.specs.declared.faults.FloorRefusal.TheVariants.{WrongSession}
-use Rattle.model.specs.World.{World}
 use Rattle.model.specs.Checks.{must}
 use Rattle.floor_calls.specs.Floors.{seen}
 use Rattle.floor_calls.specs.Replies.{unless}
@@ -9,8 +8,8 @@ use Rattle.floor_calls.proofs.Passing.{allowed-met}
 use Rattle.floor_calls.proofs.Ending.{void-granted}
 use Rattle.floor_calls.proofs.floors.Floor.end.Goals as goal
 
-pub void-books-requires : goal.void-books-requires
-void-books-requires g c =
+pub void_books-requires : goal.void_books-requires
+void_books-requires g c =
     let f = c.args.self.now in
     record { eight = c.requires.eight; granted = void-granted (g.M.MarketRule.means f.rule).step (seen g.R.Register.means f) c.requires.sound }
 
@@ -18,11 +17,11 @@ pub returns : goal.returns
 returns g c =
     let a = c.args in
     let w = seen g.R.Register.means a.self.now in
-    let ok = allowed-met w.session a.event _ c.in-ok-session.ensures in
-    let v = c.void-books.ensures in
+    let ok = allowed-met w.session a.event _ c.in_ok-session.ensures in
+    let v = c.void_books.ensures in
     record {
       answer = sym (ap (λ (b : Bool). unless (must b WrongSession) tt) ok.0);
       world = (λ i. record { book = v.book i; session = ok.1 i; listing = w.listing; given = w.given; sheets = v.sheets i }) ∙ sym (cond-true _ _ _ ok.0);
       rule = refl;
-      eight = c.void-books.auto.books ∙ c.requires.eight;
+      eight = c.void_books.auto.books ∙ c.requires.eight;
     }

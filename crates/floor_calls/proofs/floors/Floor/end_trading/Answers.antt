@@ -1,4 +1,4 @@
-use Rattle.std.proofs.Common.{◌≡◌, sym, refl, ap, ◌∙◌, subst}
+use Rattle.std.proofs.Common.{sym, refl, ap, ◌∙◌, subst}
 use Rattle.model.specs.declared.calls.Call.TheVariants.{EndTrading}
 use Rattle.floor_calls.specs.declared.events.Event.TheVariants as event
 use Rattle.floor_calls.specs.Floors.{seen}

@@ -1,4 +1,4 @@
-use Rattle.std.proofs.Common.{◌≡◌, sym, refl, subst}
+use Rattle.std.proofs.Common.{sym, refl, subst}
 use Rattle.model.specs.Sound.{Sound}
 use Rattle.model.proofs.Making.{made-floors-are-sound}
 use Rattle.floor_calls.proofs.floors.Floor.new.Goals as goal

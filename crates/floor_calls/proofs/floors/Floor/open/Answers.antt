@@ -1,4 +1,4 @@
-use Rattle.std.proofs.Common.{◌≡◌, length, sym, refl, ap, ◌∙◌}
+use Rattle.std.proofs.Common.{length, refl}
 use Rattle.model.specs.declared.calls.Call.TheVariants.{Open}
 use Rattle.model.specs.Calls.{trades_made}
 use Rattle.floor_calls.specs.Floors.{seen}

@@ -1,4 +1,4 @@
-use Rattle.std.proofs.Common.{◌≡◌, ◌<◌, true, ltb, length, sym, refl, ap, ◌∙◌, subst, arith}
+use Rattle.std.proofs.Common.{length, sym, refl, ap, ◌∙◌, subst, arith}
 use Rattle.std.proofs.lemmas.Bool.Decides.{nat_tests}
 use Rattle.std.proofs.lemmas.Bool.{and_parts}
 use Rattle.std.proofs.lemmas.Result.{err_from_is_err_and}
@@ -11,7 +11,7 @@ use Rattle.model.specs.Bidding.{question}
 use Rattle.model.specs.Calls.{receipt}
 use Rattle.model.proofs.Sheets.{must-true}
 use Rattle.rules.specs.declared.bid.Question.{Question}
-use Rattle.rules.specs.Rules.{Rule, answered}
+use Rattle.rules.specs.Rules.{answered}
 use Rattle.model.specs.Checks.{must, has_place_lem}
 use Rattle.model.specs.declared.faults.FloorRefusal.TheVariants.{QueueFull}
 use Rattle.matching.specs.declared.newcomers.Newcomer.{Newcomer}
@@ -22,20 +22,20 @@ use Rattle.floor_calls.specs.Desks.{world_of}
 use Rattle.floor_calls.specs.Floors.{seen}
 use Rattle.floor_calls.proofs.Called.{after-refused, after-taken, refused-result, taken-result, refused-strip, taken-strip, unless-refused, unless-taken, rule-refused, rule-admits}
 use Rattle.floor_calls.proofs.Outlined.{outlined-same}
-use Rattle.floor_calls.proofs.Bidden.{form-refuses, rule-refuses, place-refuses, funds-decide, Formed, formed, fault-same, book-same, slip-same, not-blocked, enters, enters-there, admitted-there, next-world, next-receipt, next-strip}
+use Rattle.floor_calls.proofs.Bidden.{form-refuses, rule-refuses, place-refuses, funds-decide, formed, fault-same, book-same, slip-same, not_blocked, enters, enters-there, admitted-there, next-world, next-receipt, next-strip}
 use Rattle.floor_calls.proofs.floors.Floor.place.Goals as goal
 
-pub returns-in-err-check-form : goal.returns-in-err-check-form
-returns-in-err-check-form g c =
+pub returns-in_err-check_form : goal.returns-in_err-check_form
+returns-in_err-check_form g c =
     let a = c.args in
     let r = g.M.MarketRule.means a.self.now.rule in
     let w = seen g.R.Register.means a.self.now in
     let k : Call = Place a.shown a.bid (length a.strip.now) in
-    let p = err_from_is_err_and c.from-residual.result c.from-residual.ensures.1 in
-    let e = ByFloor c.in-err-check-form.field-0.0 in
-    let no = form-refuses r w a.shown a.bid (length a.strip.now) e c.in-err-check-form.ensures in
+    let p = err_from_is_err_and c.from_residual.result c.from_residual.ensures.1 in
+    let e = ByFloor c.in_err-check_form.field-0.0 in
+    let no = form-refuses r w a.shown a.bid (length a.strip.now) e c.in_err-check_form.ensures in
     record {
-      answer = refused-result r w k (receipt w a.bid) c.from-residual.result p.0 e no p.1 p.2;
+      answer = refused-result r w k (receipt w a.bid) c.from_residual.result p.0 e no p.1 p.2;
       world = sym (after-refused r w k e no);
       strip = refused-strip r w k e a.strip.now no;
       rule = refl;
@@ -47,10 +47,10 @@ newcomer-newcomer-requires g c =
     let a = c.args in
     let r = g.M.MarketRule.means a.self.now.rule in
     let w = seen g.R.Register.means a.self.now in
-    let f = formed r w a.shown a.bid (length a.strip.now) c.in-ok-check-form.ensures in
+    let f = formed r w a.shown a.bid (length a.strip.now) c.in_ok-check_form.ensures in
     let n = f.numbers in
     record {
-      askable = record { eight = c.requires.eight; known = (and_parts _ _ f.holder-ticker).1; dearest = c.requires.sound.dearest a.bid.ticker };
+      askable = record { eight = c.requires.eight; known = (and_parts _ _ f.holder_ticker).1; dearest = c.requires.sound.dearest a.bid.ticker };
       numbers = grind (arith, nat_tests);
     }
 
@@ -59,22 +59,22 @@ question-requires g c =
     let a = c.args in
     let r = g.M.MarketRule.means a.self.now.rule in
     let w = seen g.R.Register.means a.self.now in
-    let f = formed r w a.shown a.bid (length a.strip.now) c.in-ok-check-form.ensures in
-    record { eight = c.requires.eight; known = (and_parts _ _ f.holder-ticker).1 }
+    let f = formed r w a.shown a.bid (length a.strip.now) c.in_ok-check_form.ensures in
+    record { eight = c.requires.eight; known = (and_parts _ _ f.holder_ticker).1 }
 
-pub returns-in-err-on-bid : goal.returns-in-err-on-bid
-returns-in-err-on-bid g c =
+pub returns-in_err-on_bid : goal.returns-in_err-on_bid
+returns-in_err-on_bid g c =
     let a = c.args in
     let r = g.M.MarketRule.means a.self.now.rule in
     let w = seen g.R.Register.means a.self.now in
     let k : Call = Place a.shown a.bid (length a.strip.now) in
-    let p = err_from_is_err_and c.from-residual-in-err-on-bid.result c.from-residual-in-err-on-bid.ensures.1 in
-    let x = c.in-err-on-bid.field-0.0 in
+    let p = err_from_is_err_and c.from_residual-in_err-on_bid.result c.from_residual-in_err-on_bid.ensures.1 in
+    let x = c.in_err-on_bid.field-0.0 in
     let e = ByRule x in
-    let said = rule-refused (r.on_bid (question w a.bid)) x (c.in-err-on-bid.ensures ∙ ap (λ (q : Question). answered (r.on_bid q)) c.question.ensures) in
-    let no = rule-refuses r w a.shown a.bid (length a.strip.now) e c.in-ok-check-form.ensures said in
+    let said = rule-refused (r.on_bid (question w a.bid)) x (c.in_err-on_bid.ensures ∙ ap (λ (q : Question). answered (r.on_bid q)) c.question.ensures) in
+    let no = rule-refuses r w a.shown a.bid (length a.strip.now) e c.in_ok-check_form.ensures said in
     record {
-      answer = refused-result r w k (receipt w a.bid) c.from-residual-in-err-on-bid.result p.0 e no p.1 p.2;
+      answer = refused-result r w k (receipt w a.bid) c.from_residual-in_err-on_bid.result p.0 e no p.1 p.2;
       world = sym (after-refused r w k e no);
       strip = refused-strip r w k e a.strip.now no;
       rule = refl;
@@ -86,51 +86,51 @@ outlook-requires g c =
     let a = c.args in
     let r = g.M.MarketRule.means a.self.now.rule in
     let w = seen g.R.Register.means a.self.now in
-    let f = formed r w a.shown a.bid (length a.strip.now) c.in-ok-check-form.ensures in
+    let f = formed r w a.shown a.bid (length a.strip.now) c.in_ok-check_form.ensures in
     let n = c.newcomer-newcomer in
     record {
       eight = c.requires.eight;
-      known = ap (λ (z : Newcomer). ticker_known z.bid.ticker) n.ensures ∙ (and_parts _ _ f.holder-ticker).1;
+      known = ap (λ (z : Newcomer). ticker_known z.bid.ticker) n.ensures ∙ (and_parts _ _ f.holder_ticker).1;
       newcomer = n.ensures ∙ ap (λ (z : Newcomer). newcomer_of w z.bid) (sym n.ensures);
     }
 
-pub returns-in-err-outlook : goal.returns-in-err-outlook
-returns-in-err-outlook g c =
+pub returns-in_err-outlook : goal.returns-in_err-outlook
+returns-in_err-outlook g c =
     let a = c.args in
     let r = g.M.MarketRule.means a.self.now.rule in
     let w = seen g.R.Register.means a.self.now in
     let k : Call = Place a.shown a.bid (length a.strip.now) in
-    let p = err_from_is_err_and c.from-residual-in-err-outlook.result c.from-residual-in-err-outlook.ensures.1 in
-    let e = ByFloor c.in-err-outlook.field-0.0 in
-    let ruled = rule-admits (r.on_bid (question w a.bid)) _ (c.in-ok-on-bid.ensures ∙ ap (λ (q : Question). answered (r.on_bid q)) c.question.ensures) in
-    let no = place-refuses r w a.shown a.bid (length a.strip.now) e c.in-ok-check-form.ensures ruled (c.in-err-outlook.ensures.full ∙ ap (λ (z : Newcomer). must (has_place_lem w z.bid) QueueFull) c.newcomer-newcomer.ensures) in
+    let p = err_from_is_err_and c.from_residual-in_err-outlook.result c.from_residual-in_err-outlook.ensures.1 in
+    let e = ByFloor c.in_err-outlook.field-0.0 in
+    let ruled = rule-admits (r.on_bid (question w a.bid)) _ (c.in_ok-on_bid.ensures ∙ ap (λ (q : Question). answered (r.on_bid q)) c.question.ensures) in
+    let no = place-refuses r w a.shown a.bid (length a.strip.now) e c.in_ok-check_form.ensures ruled (c.in_err-outlook.ensures.full ∙ ap (λ (z : Newcomer). must (has_place_lem w z.bid) QueueFull) c.newcomer-newcomer.ensures) in
     record {
-      answer = refused-result r w k (receipt w a.bid) c.from-residual-in-err-outlook.result p.0 e no p.1 p.2;
+      answer = refused-result r w k (receipt w a.bid) c.from_residual-in_err-outlook.result p.0 e no p.1 p.2;
       world = sym (after-refused r w k e no);
       strip = refused-strip r w k e a.strip.now no;
       rule = refl;
       eight = c.requires.eight;
     }
 
-pub returns-in-err-slip : goal.returns-in-err-slip
-returns-in-err-slip g c =
+pub returns-in_err-slip : goal.returns-in_err-slip
+returns-in_err-slip g c =
     let a = c.args in
     let r = g.M.MarketRule.means a.self.now.rule in
     let w = seen g.R.Register.means a.self.now in
     let k : Call = Place a.shown a.bid (length a.strip.now) in
     let n = c.newcomer-newcomer in
-    let o = c.in-ok-outlook.outlook in
-    let p = err_from_is_err_and c.from-residual-in-err-slip.result c.from-residual-in-err-slip.ensures.1 in
-    let e = c.in-err-slip.field-0.0 in
-    let b = c.in-err-slip.ensures in
-    let ruled = rule-admits (r.on_bid (question w a.bid)) _ (c.in-ok-on-bid.ensures ∙ ap (λ (q : Question). answered (r.on_bid q)) c.question.ensures) in
-    let full = c.in-ok-outlook.ensures.full ∙ ap (λ (z : Newcomer). must (has_place_lem w z.bid) QueueFull) n.ensures in
-    let out = subst (λ (z : Newcomer). Outlined w z.bid o) n.ensures (outlined-same empty_book w.book a.self.now.desk n.result.bid o c.in-ok-outlook.ensures.outlook) in
+    let o = c.in_ok-outlook.outlook in
+    let p = err_from_is_err_and c.from_residual-in_err-slip.result c.from_residual-in_err-slip.ensures.1 in
+    let e = c.in_err-slip.field-0.0 in
+    let b = c.in_err-slip.ensures in
+    let ruled = rule-admits (r.on_bid (question w a.bid)) _ (c.in_ok-on_bid.ensures ∙ ap (λ (q : Question). answered (r.on_bid q)) c.question.ensures) in
+    let full = c.in_ok-outlook.ensures.full ∙ ap (λ (z : Newcomer). must (has_place_lem w z.bid) QueueFull) n.ensures in
+    let out = subst (λ (z : Newcomer). Outlined w z.bid o) n.ensures (outlined-same empty_book w.book a.self.now.desk n.result.bid o c.in_ok-outlook.ensures.outlook) in
     let fault = unless-refused _ _ e b.answer in
-    let no = funds-decide r w a.shown a.bid (length a.strip.now) c.in-ok-check-form.ensures ruled full ∙ sym (fault-same w a.bid o n.result c.owed.result n.ensures c.owed.ensures out) ∙ fault in
+    let no = funds-decide r w a.shown a.bid (length a.strip.now) c.in_ok-check_form.ensures ruled full ∙ sym (fault-same w a.bid o n.result c.owed.result n.ensures c.owed.ensures out) ∙ fault in
     record {
-      answer = refused-result r w k (receipt w a.bid) c.from-residual-in-err-slip.result p.0 e no p.1 p.2;
-      world = (λ i. world_of ((b.book ∙ not-blocked w.book (mine_of n.result c.owed.result) e fault) i) (b.desk i)) ∙ sym (after-refused r w k e no);
+      answer = refused-result r w k (receipt w a.bid) c.from_residual-in_err-slip.result p.0 e no p.1 p.2;
+      world = (λ i. world_of ((b.book ∙ not_blocked w.book (mine_of n.result c.owed.result) e fault) i) (b.desk i)) ∙ sym (after-refused r w k e no);
       strip = refused-strip r w k e a.strip.now no;
       rule = b.rule;
       eight = ap (λ (d : Desk). length d.books) b.desk ∙ c.requires.eight;
@@ -142,24 +142,24 @@ admit-requires g c =
     let r = g.M.MarketRule.means a.self.now.rule in
     let w = seen g.R.Register.means a.self.now in
     let n = c.newcomer-newcomer in
-    let o = c.in-ok-outlook.outlook in
-    let b = c.in-ok-slip.ensures in
+    let o = c.in_ok-outlook.outlook in
+    let b = c.in_ok-slip.ensures in
     let room = length a.strip.now in
-    let fm = formed r w a.shown a.bid room c.in-ok-check-form.ensures in
-    let ruled = rule-admits (r.on_bid (question w a.bid)) _ (c.in-ok-on-bid.ensures ∙ ap (λ (q : Question). answered (r.on_bid q)) c.question.ensures) in
-    let full = c.in-ok-outlook.ensures.full ∙ ap (λ (z : Newcomer). must (has_place_lem w z.bid) QueueFull) n.ensures in
-    let out = subst (λ (z : Newcomer). Outlined w z.bid o) n.ensures (outlined-same empty_book w.book a.self.now.desk n.result.bid o c.in-ok-outlook.ensures.outlook) in
-    let taken = unless-taken _ _ c.in-ok-slip.slip b.answer in
+    let fm = formed r w a.shown a.bid room c.in_ok-check_form.ensures in
+    let ruled = rule-admits (r.on_bid (question w a.bid)) _ (c.in_ok-on_bid.ensures ∙ ap (λ (q : Question). answered (r.on_bid q)) c.question.ensures) in
+    let full = c.in_ok-outlook.ensures.full ∙ ap (λ (z : Newcomer). must (has_place_lem w z.bid) QueueFull) n.ensures in
+    let out = subst (λ (z : Newcomer). Outlined w z.bid o) n.ensures (outlined-same empty_book w.book a.self.now.desk n.result.bid o c.in_ok-outlook.ensures.outlook) in
+    let taken = unless-taken _ _ c.in_ok-slip.slip b.answer in
     let fu = sym (fault-same w a.bid o n.result c.owed.result n.ensures c.owed.ensures out) ∙ taken.0 in
-    let ok = funds-decide r w a.shown a.bid room c.in-ok-check-form.ensures ruled full ∙ fu in
+    let ok = funds-decide r w a.shown a.bid room c.in_ok-check_form.ensures ruled full ∙ fu in
     let en = enters w a.bid o out r (g.met.M.MarketRule.lawful a.self.now.rule) a.shown room c.requires.sound ok fm (must-true _ _ (sym full)) fu
-    (g.R.Register.means c.block.new.self.register) c.in-ok-slip.slip
+    (g.R.Register.means c.block.new.self.register) c.in_ok-slip.slip
     (book-same w a.bid o n.result c.owed.result n.ensures c.owed.ensures _ b.book)
     (taken.1 ∙ slip-same w a.bid o n.result c.owed.result n.ensures c.owed.ensures) in
     record {
       eight = ap (λ (d : Desk). length d.books) b.desk ∙ c.requires.eight;
-      known = ap (λ (z : Newcomer). ticker_known z.bid.ticker) n.ensures ∙ (and_parts _ _ fm.holder-ticker).1;
-      enters = enters-there w a.bid o n.result c.owed.result n.ensures c.owed.ensures c.block.new.self.desk (g.R.Register.means c.block.new.self.register) c.in-ok-slip.slip room (ap (world_of w.book) b.desk) en;
+      known = ap (λ (z : Newcomer). ticker_known z.bid.ticker) n.ensures ∙ (and_parts _ _ fm.holder_ticker).1;
+      enters = enters-there w a.bid o n.result c.owed.result n.ensures c.owed.ensures c.block.new.self.desk (g.R.Register.means c.block.new.self.register) c.in_ok-slip.slip room (ap (world_of w.book) b.desk) en;
     }
 
 pub returns : goal.returns
@@ -169,17 +169,17 @@ returns g c =
     let w = seen g.R.Register.means a.self.now in
     let k : Call = Place a.shown a.bid (length a.strip.now) in
     let n = c.newcomer-newcomer in
-    let o = c.in-ok-outlook.outlook in
-    let b = c.in-ok-slip.ensures in
+    let o = c.in_ok-outlook.outlook in
+    let b = c.in_ok-slip.ensures in
     let room = length a.strip.now in
     let law = g.met.M.MarketRule.lawful a.self.now.rule in
-    let fm = formed r w a.shown a.bid room c.in-ok-check-form.ensures in
-    let ruled = rule-admits (r.on_bid (question w a.bid)) _ (c.in-ok-on-bid.ensures ∙ ap (λ (q : Question). answered (r.on_bid q)) c.question.ensures) in
-    let full = c.in-ok-outlook.ensures.full ∙ ap (λ (z : Newcomer). must (has_place_lem w z.bid) QueueFull) n.ensures in
-    let out = subst (λ (z : Newcomer). Outlined w z.bid o) n.ensures (outlined-same empty_book w.book a.self.now.desk n.result.bid o c.in-ok-outlook.ensures.outlook) in
-    let taken = unless-taken _ _ c.in-ok-slip.slip b.answer in
+    let fm = formed r w a.shown a.bid room c.in_ok-check_form.ensures in
+    let ruled = rule-admits (r.on_bid (question w a.bid)) _ (c.in_ok-on_bid.ensures ∙ ap (λ (q : Question). answered (r.on_bid q)) c.question.ensures) in
+    let full = c.in_ok-outlook.ensures.full ∙ ap (λ (z : Newcomer). must (has_place_lem w z.bid) QueueFull) n.ensures in
+    let out = subst (λ (z : Newcomer). Outlined w z.bid o) n.ensures (outlined-same empty_book w.book a.self.now.desk n.result.bid o c.in_ok-outlook.ensures.outlook) in
+    let taken = unless-taken _ _ c.in_ok-slip.slip b.answer in
     let fu = sym (fault-same w a.bid o n.result c.owed.result n.ensures c.owed.ensures out) ∙ taken.0 in
-    let ok = funds-decide r w a.shown a.bid room c.in-ok-check-form.ensures ruled full ∙ fu in
+    let ok = funds-decide r w a.shown a.bid room c.in_ok-check_form.ensures ruled full ∙ fu in
     let pl = must-true _ _ (sym full) in
     let t = admitted-there w a.bid o n.result c.owed.result n.ensures c.owed.ensures g.R.Register.means c.block.new.self c.admit.new.self a.strip.now c.admit.new.strip c.admit.result (ap (world_of w.book) b.desk) c.admit.ensures in
     record {

@@ -1,4 +1,4 @@
-use Rattle.std.proofs.Common.{◌≡◌, sym, refl, ap, ◌∙◌}
+use Rattle.std.proofs.Common.{sym, refl, ap, ◌∙◌}
 use Rattle.model.specs.declared.calls.Call.TheVariants.{Start}
 use Rattle.floor_calls.specs.Floors.{seen}
 use Rattle.floor_calls.specs.Replies.{done}

@@ -1,11 +1,11 @@
-use Rattle.std.proofs.Common.{◌≡◌, refl, ap, ◌∙◌}
+use Rattle.std.proofs.Common.{refl, ap, ◌∙◌}
 use Rattle.register.specs.Books.{Book}
 use Rattle.floor_calls.specs.Desks.{world_of}
 use Rattle.floor_calls.proofs.Ending.{void-granted, void-blocked}
 use Rattle.floor_calls.proofs.floors.Floor.take_apart.Goals as goal
 
-pub void-books-requires : goal.void-books-requires
-void-books-requires g c =
+pub void_books-requires : goal.void_books-requires
+void_books-requires g c =
     let f = c.args.self in
     record { eight = c.requires.eight; granted = void-granted (g.M.MarketRule.means f.rule).step (world_of (g.R.Register.means f.register) f.desk) c.requires.sound }
 
@@ -14,7 +14,7 @@ returns g c =
     let f = c.args.self in
     let w = world_of (g.R.Register.means f.register) f.desk in
     record {
-      register = c.void-books.ensures.book;
-      released = λ o h a i j. ap (λ (b : Book). b.blocked h a) c.void-books.ensures.book ∙ void-blocked (g.M.MarketRule.means f.rule).step w c.requires.sound o h a i j;
+      register = c.void_books.ensures.book;
+      released = λ o h a i j. ap (λ (b : Book). b.blocked h a) c.void_books.ensures.book ∙ void-blocked (g.M.MarketRule.means f.rule).step w c.requires.sound o h a i j;
       rule = refl;
     }

@@ -1,4 +1,4 @@
-use Rattle.std.proofs.Common.{◌≡◌, length, sym, refl, ap, ◌∙◌}
+use Rattle.std.proofs.Common.{length, sym, refl, ap, ◌∙◌}
 use Rattle.model.specs.declared.calls.Call.TheVariants.{Withdraw}
 use Rattle.floor_calls.specs.declared.desk.Desk.{Desk}
 use Rattle.floor_calls.specs.Desks.{world_of}

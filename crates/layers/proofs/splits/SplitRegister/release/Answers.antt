@@ -3,26 +3,26 @@ use Rattle.register.specs.Moves.{Release, handed_back}
 use Rattle.layers.specs.Splitting.{whole-answer, whole-after}
 use Rattle.layers.proofs.splits.SplitRegister.release.Goals as goal
 
-pub returns-then-in-first : goal.returns-then-in-first
-returns-then-in-first g c =
+pub returns-then-in_first : goal.returns-then-in_first
+returns-then-in_first g c =
     let p = g.P.Register.means c.args.self.now.first in
     let q = g.Q.Register.means c.args.self.now.second in
     let slip = c.args.slip in
     let m = Release slip.holder slip.asset slip.amount in
-    let kept = c.if-in-first.ensures ∙ ap (λ (a : ℕ). ltb a 4) c.asset.ensures in
+    let kept = c.if-in_first.ensures ∙ ap (λ (a : ℕ). ltb a 4) c.asset.ensures in
     record {
       answer = whole-answer true p q m kept (λ r. handed_back r slip) _ c.release.ensures.answer;
       after = whole-after true p q m kept _ c.release.ensures.after;
     }
 
-pub returns-else-in-first : goal.returns-else-in-first
-returns-else-in-first g c =
+pub returns-else-in_first : goal.returns-else-in_first
+returns-else-in_first g c =
     let p = g.P.Register.means c.args.self.now.first in
     let q = g.Q.Register.means c.args.self.now.second in
     let slip = c.args.slip in
     let m = Release slip.holder slip.asset slip.amount in
-    let kept = c.if-in-first.ensures ∙ ap (λ (a : ℕ). ltb a 4) c.asset.ensures in
+    let kept = c.if-in_first.ensures ∙ ap (λ (a : ℕ). ltb a 4) c.asset.ensures in
     record {
-      answer = whole-answer false q p m kept (λ r. handed_back r slip) _ c.release-else-in-first.ensures.answer;
-      after = whole-after false q p m kept _ c.release-else-in-first.ensures.after;
+      answer = whole-answer false q p m kept (λ r. handed_back r slip) _ c.release-else-in_first.ensures.answer;
+      after = whole-after false q p m kept _ c.release-else-in_first.ensures.after;
     }

@@ -3,24 +3,24 @@ use Rattle.register.specs.Moves.{Withdraw, granted}
 use Rattle.layers.specs.Splitting.{whole-answer, whole-after}
 use Rattle.layers.proofs.splits.SplitRegister.withdraw.Goals as goal
 
-pub returns-then-in-first : goal.returns-then-in-first
-returns-then-in-first g c =
+pub returns-then-in_first : goal.returns-then-in_first
+returns-then-in_first g c =
     let p = g.P.Register.means c.args.self.now.first in
     let q = g.Q.Register.means c.args.self.now.second in
     let m = Withdraw c.args.holder c.args.asset c.args.amount in
-    let kept = c.if-in-first.ensures in
+    let kept = c.if-in_first.ensures in
     record {
       answer = whole-answer true p q m kept (λ r. granted r tt) _ c.withdraw.ensures.answer;
       after = whole-after true p q m kept _ c.withdraw.ensures.after;
     }
 
-pub returns-else-in-first : goal.returns-else-in-first
-returns-else-in-first g c =
+pub returns-else-in_first : goal.returns-else-in_first
+returns-else-in_first g c =
     let p = g.P.Register.means c.args.self.now.first in
     let q = g.Q.Register.means c.args.self.now.second in
     let m = Withdraw c.args.holder c.args.asset c.args.amount in
-    let kept = c.if-in-first.ensures in
+    let kept = c.if-in_first.ensures in
     record {
-      answer = whole-answer false q p m kept (λ r. granted r tt) _ c.withdraw-else-in-first.ensures.answer;
-      after = whole-after false q p m kept _ c.withdraw-else-in-first.ensures.after;
+      answer = whole-answer false q p m kept (λ r. granted r tt) _ c.withdraw-else-in_first.ensures.answer;
+      after = whole-after false q p m kept _ c.withdraw-else-in_first.ensures.after;
     }

@@ -5,13 +5,13 @@ use Rattle.register.specs.Moves.{fault, granted}
 use Rattle.registers.proofs.Moved.{covered, account-known, small, release-made}
 use Rattle.registers.proofs.bottom.Bottom.free_again.Goals as goal
 
-pub overflow-add-free : goal.overflow-add-free
-overflow-add-free g c =
+pub overflow_add-free : goal.overflow_add-free
+overflow_add-free g c =
     let b = g.A.Accounts.book c.args.self.now.accounts in
     let h = c.args.holder in
     let a = c.args.asset in
     let n = c.args.amount in
-    let k = account-known h a _ c.in-ok-check-account.ensures in
+    let k = account-known h a _ c.in_ok-check_account.ensures in
     let s = small b h a k (g.met.A.Accounts.bounded c.args.self.now.accounts) in
     search rules
 
@@ -21,6 +21,6 @@ returns g c =
     let h = c.args.holder in
     let a = c.args.asset in
     let n = c.args.amount in
-    let k = account-known h a _ c.in-ok-check-account.ensures in
-    let m = release-made b h a n c.balance-free.result k c.balance-free.ensures (covered n c.balance-free.result.blocked (fault TooLittleBlocked h a 0) c.in-ok-check-blocked.field-0 c.in-ok-check-blocked.ensures) in
+    let k = account-known h a _ c.in_ok-check_account.ensures in
+    let m = release-made b h a n c.balance-free.result k c.balance-free.ensures (covered n c.balance-free.result.blocked (fault TooLittleBlocked h a 0) c.in_ok-check_blocked.field-0 c.in_ok-check_blocked.ensures) in
     record { answer = ap (λ (r : Option RegisterFault). granted r tt) (sym m.none); after = c.put.ensures ∙ m.after }

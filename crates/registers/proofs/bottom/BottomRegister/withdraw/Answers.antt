@@ -1,4 +1,4 @@
-use Rattle.std.proofs.Common.{Option, sym, ap, ◌∙◌, rules}
+use Rattle.std.proofs.Common.{Option, sym, ap, ◌∙◌}
 use Rattle.register.specs.declared.faults.RegisterFault.{RegisterFault}
 use Rattle.register.specs.declared.faults.RegisterCause.TheVariants.{TooLittleFree}
 use Rattle.register.specs.Moves.{fault, granted}
@@ -11,7 +11,7 @@ returns g c =
     let h = c.args.holder in
     let a = c.args.asset in
     let n = c.args.amount in
-    let k = account-known h a _ c.in-ok-check-account.ensures in
-    let l = amount-lawful h a n _ c.in-ok-check-amount.ensures in
-    let m = withdraw-made b h a n c.balance-free.result k c.balance-free.ensures l (covered n c.balance-free.result.free (fault TooLittleFree h a 0) c.in-ok-check-free.field-0 c.in-ok-check-free.ensures) in
+    let k = account-known h a _ c.in_ok-check_account.ensures in
+    let l = amount-lawful h a n _ c.in_ok-check_amount.ensures in
+    let m = withdraw-made b h a n c.balance-free.result k c.balance-free.ensures l (covered n c.balance-free.result.free (fault TooLittleFree h a 0) c.in_ok-check_free.field-0 c.in_ok-check_free.ensures) in
     record { answer = ap (λ (r : Option RegisterFault). granted r tt) (sym m.none); after = c.put.ensures ∙ m.after }

@@ -5,14 +5,14 @@ use Rattle.registers.proofs.Kept.{kept, sound-total, held-within}
 use Rattle.registers.proofs.list.ListAccounts.held.Goals as goal
 use Rattle.registers.proofs.list.ListAccounts.held.Goals.{then-entry-asset, else-entry-asset}
 
-pub overflow-add-sum : goal.overflow-add-sum
-overflow-add-sum c =
+pub overflow_add-sum : goal.overflow_add-sum
+overflow_add-sum c =
     let t = c.args.self.now in
     let w = held-within (take t.len t.entries) c.args.asset c.loop-entry.entry-index c.loop-entry.sum (kept t) c.requires c.loop-entry-test.true c.loop-entry.invariant c.if-entry-asset.true in
     omega arith
 
-pub overflow-add-sum-then-entry-asset : goal.overflow-add-sum-then-entry-asset
-overflow-add-sum-then-entry-asset c =
+pub overflow_add-sum-then-entry-asset : goal.overflow_add-sum-then-entry-asset
+overflow_add-sum-then-entry-asset c =
     let t = c.args.self.now in
     let w = held-within (take t.len t.entries) c.args.asset c.loop-entry.entry-index c.loop-entry.sum (kept t) c.requires c.loop-entry-test.true c.loop-entry.invariant c.if-entry-asset.true in
     omega arith

@@ -1,4 +1,4 @@
-use Rattle.std.proofs.Common.{ℕ, ◌+◌, refl, rules}
+use Rattle.std.proofs.Common.{◌+◌, refl, rules}
 use Rattle.register.specs.Books.{sum_to}
 use Rattle.register.proofs.Sums.{sum_to-more, sum_to-within}
 use Rattle.registers.specs.Tables.{balance_at}
@@ -8,15 +8,15 @@ pub loop-holder-init : goal.loop-holder-init
 unfolding sum_to
 loop-holder-init c = refl
 
-pub overflow-add-sum : goal.overflow-add-sum
-overflow-add-sum c =
+pub overflow_add-sum : goal.overflow_add-sum
+overflow_add-sum c =
     let t = c.args.self.now in
     let w = sum_to-within 16 c.loop-holder.holder (λ k. (balance_at t.balances k c.args.asset).free + (balance_at t.balances k c.args.asset).blocked) c.loop-holder-test.true in
     let b = t.bounded c.args.asset c.requires in
     search rules
 
-pub overflow-add-sum-in-loop-holder : goal.overflow-add-sum-in-loop-holder
-overflow-add-sum-in-loop-holder c =
+pub overflow_add-sum-in-loop-holder : goal.overflow_add-sum-in-loop-holder
+overflow_add-sum-in-loop-holder c =
     let t = c.args.self.now in
     let w = sum_to-within 16 c.loop-holder.holder (λ k. (balance_at t.balances k c.args.asset).free + (balance_at t.balances k c.args.asset).blocked) c.loop-holder-test.true in
     let b = t.bounded c.args.asset c.requires in
