@@ -6,6 +6,11 @@ use Rattle.model.specs.Opening.{demand, supply, tradable, gap, better, best_from
 use Rattle.auction.specs.declared.prices.Candidate.{Candidate}
 use Rattle.auction.specs.Prices.{candidate_at, better_than, better_of_lem, best_among_lem}
 
+-- the price of a candidate, if there is one
+abbrev pub price_in : Option Candidate → Option ℕ
+price_in None = None
+price_in (Some c) = Some c.price
+
 module _ (buys sells : List Standing) where
   pub numbers-are : (p d s lots apart : ℕ) → d ≡ demand buys p → s ≡ supply sells p → lots ≡ min d s → apart ≡ (d - s) + (s - d)
       → ◌≡◌ {A = Candidate} (record { price = p; lots = lots; apart = apart }) (candidate_at buys sells p)
@@ -46,10 +51,6 @@ module _ (buys sells : List Standing) where
   among_of : (ps : List ℕ) → best_among_lem buys sells None ps ≡ numbered (best_of (better buys sells) ps)
   among_of [] = refl
   among_of (p ∷ ps) = among-from p ps
-
-  abbrev price_in : Option Candidate → Option ℕ
-  price_in None = None
-  price_in (Some c) = Some c.price
 
   priced : (o : Option ℕ) → price_in (numbered o) ≡ o
   priced None = refl

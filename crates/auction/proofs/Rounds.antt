@@ -2,7 +2,7 @@
 use Rattle.std.proofs.Common.{◌≡◌, ℕ, zero, suc, ◌+◌, ◌-◌, ◌*◌, ◌<◌, ◌≤◌, Bool, true, false, cond, ◌&&◌, eqb, ltb, ◌⊎◌, List, [], ◌∷◌, ◌++◌, map, length, get_or, take, drop, set, sym, refl, ap, ◌∙◌, subst, inl, inr, arith}
 use mathlib.Core.Path.{fun_ext}
 use Rattle.std.specs.List.{flat_map as joined, AllByRecursion}
-use Rattle.std.proofs.lemmas.List.{length-append, length-map, length-take, take_at}
+use Rattle.std.proofs.lemmas.List.{length-append, length-drop, length-map, take_at}
 use Rattle.std.proofs.lemmas.Bool.{cond-true, cond-false, cond_both, cases_Bool, eqb-true, and_from, lt-ltb}
 use Rattle.std.proofs.lemmas.Bool.Decides.{nat_tests}
 use Rattle.rules.specs.declared.bid.Side.{Side}
@@ -28,12 +28,12 @@ use Rattle.queues.specs.Sheets.{sheet_of, sheets_of}
 use Rattle.queues.proofs.Filed.{filed, refiled}
 use Rattle.auction.specs.Openings.{written, opening_of, opened_with, opening_world, open_trades, Openable, Made, ReadyToOpen, OpenedAll}
 use Rattle.auction.specs.Fair.{OpenedFairly}
-use Rattle.auction.proofs.Strips.{written_none, written-join}
+use Rattle.auction.proofs.Strips.{written-behind, written_none, written-join}
 use Rattle.auction.proofs.Fairness.{few-trades, fair}
 
 -- ---- the queues of books have at most 64 bids each
 few-entries : (q : Queue) → length (entries q) ≤ 64
-few-entries q = omega (arith, length-take q.len q.bids, q.within)
+few-entries q = q.within
 
 few_on : (books : List TickerBook) (i : ℕ) (side : Side) → length (queue_of (get_or (map sheet_of books) i blank_sheet) side) ≤ 64
 few_on [] i Buy = omega arith
@@ -109,7 +109,7 @@ module _ {b0 : Book} {listing : Listing} (books0 : List TickerBook) (ready : Rea
   first_round strip0 = record { granted = ready.granted; book = refl; sheets = first-sheets; strips = refl; counts = omega arith }
 
   module _ {strip0 : List Trade} {t : ℕ} {books : List TickerBook} {b : Book} {strip : List Trade} {count : ℕ} (known : ticker_known t ≡ true)
-      (here : Round w0 strip0 t books b strip count) (eight : length books ≡ 8) where
+      (here : Round w0 strip0 t books b strip count) (eight : length books ≡ 8) (i : ℕ) (at : t - 4 ≡ i) where
     -- what is done now, and the rest
     abbrev rest : List ℕ
     rest = drop (t + 1 - 4) tickers
@@ -121,15 +121,15 @@ module _ {b0 : Book} {listing : Listing} (books0 : List TickerBook) (ready : Rea
     trades-now = ap (joined (trades_at w0)) (next-ticker t known)
 
     -- the ticker's sheet is still that of the beginning
-    pub still : (d : TickerBook) → sheet_of (get_or books (t - 4) d) ≡ w0.sheets t
-    still d = filed books t d eight known ∙ ap (λ (f : ℕ → Sheet). f t) here.sheets ∙ cond-false (ticker_known t && ltb t t) (open_sheet w0 t) (w0.sheets t) (grind (arith, nat_tests))
+    pub still : (d : TickerBook) → sheet_of (get_or books i d) ≡ w0.sheets t
+    still d = ap (λ (n : ℕ). sheet_of (get_or books n d)) (sym at) ∙ filed books t d eight known ∙ ap (λ (f : ℕ → Sheet). f t) here.sheets ∙ cond-false (ticker_known t && ltb t t) (open_sheet w0 t) (w0.sheets t) (grind (arith, nat_tests))
 
     counted-now : count + (length (opened_at w0 t).deals + length (joined (trades_at w0) rest)) ≡ length (open_trades w0)
     counted-now =
         omega (arith, here.counts, ap (λ (xs : List Trade). length xs) trades-now, length-append (trades_at w0 t) (joined (trades_at w0) rest), length-map (opened_at w0 t).deals (λ d. d.trade))
 
     -- what the ticker's opening asks
-    pub asks-ready : (currency : ℕ) (d : TickerBook) → currency ≡ asset_of_lem listing t Buy → Openable currency (sheet_of (get_or books (t - 4) d)) (opening_of t (sheet_of (get_or books (t - 4) d))) b
+    pub asks-ready : (currency : ℕ) (d : TickerBook) → currency ≡ asset_of_lem listing t Buy → Openable currency (sheet_of (get_or books i d)) (opening_of t (sheet_of (get_or books i d))) b
     asks-ready currency d e =
         subst (λ (s : Sheet). Openable currency s (opening_of t s) b) (sym (still d))
         (subst (λ (a : ℕ). Openable a (w0.sheets t) (opened_at w0 t) b) (sym e)
@@ -141,16 +141,17 @@ module _ {b0 : Book} {listing : Listing} (books0 : List TickerBook) (ready : Rea
           sums = ready.sums t;
         }))
 
-    pub asks-room : (d : TickerBook) → opening_room ≤ length strip → count + length (opening_of t (sheet_of (get_or books (t - 4) d))).deals ≤ length strip
-    asks-room d h = omega (arith, h, at_most, counted-now, ap (λ (s : Sheet). length (opening_of t s).deals) (still d))
+    pub asks-room : (d : TickerBook) → opening_room ≤ length strip → length (opening_of t (sheet_of (get_or books i d))).deals ≤ length (drop count strip)
+    asks-room d h = omega (arith, h, length-drop count strip, at_most, counted-now, ap (λ (s : Sheet). length (opening_of t s).deals) (still d))
 
     -- what it leaves
-    module _ (currency : ℕ) (d opened : TickerBook) (b' : Book) (strip' : List Trade) (n : ℕ) (e : currency ≡ asset_of_lem listing t Buy)
-        (made : Made currency count (opening_of t (sheet_of (get_or books (t - 4) d))) (sheet_of (get_or books (t - 4) d)) b strip (sheet_of opened) b' strip' n) where
-      made-here : Made (asset_of_lem listing t Buy) count (opened_at w0 t) (w0.sheets t) b strip (sheet_of opened) b' strip' n
+    module _ (currency : ℕ) (d opened : TickerBook) (b' : Book) (part strip' : List Trade) (n : ℕ) (e : currency ≡ asset_of_lem listing t Buy) (behind : part ≡ drop count strip)
+        (made : Made currency (opening_of t (sheet_of (get_or books i d))) (sheet_of (get_or books i d)) b part (sheet_of opened) b' strip' n) where
+      made-here : Made (asset_of_lem listing t Buy) (opened_at w0 t) (w0.sheets t) b (drop count strip) (sheet_of opened) b' strip' n
       made-here =
-          subst (λ (a : ℕ). Made a count (opened_at w0 t) (w0.sheets t) b strip (sheet_of opened) b' strip' n) e
-          (subst (λ (s : Sheet). Made currency count (opening_of t s) s b strip (sheet_of opened) b' strip' n) (still d) made)
+          subst (λ (a : ℕ). Made a (opened_at w0 t) (w0.sheets t) b (drop count strip) (sheet_of opened) b' strip' n) e
+          (subst (λ (s : Sheet). Made currency (opening_of t s) s b (drop count strip) (sheet_of opened) b' strip' n) (still d)
+          (subst (λ (z : List Trade). Made currency (opening_of t (sheet_of (get_or books i d))) (sheet_of (get_or books i d)) b z (sheet_of opened) b' strip' n) behind made))
 
       same_count : n ≡ length (trades_at w0 t)
       same_count = made-here.trades ∙ sym (length-map (opened_at w0 t).deals (λ d. d.trade))
@@ -158,24 +159,30 @@ module _ {b0 : Book} {listing : Listing} (books0 : List TickerBook) (ready : Rea
       pub fits_count : opening_room ≤ length strip → count + n ≤ length strip
       fits_count h = omega (arith, h, at_most, counted-now, made-here.trades)
 
-      pub next-round : opening_room ≤ length strip → Round w0 strip0 (t + 1) (set books (t - 4) opened) b' strip' (count + n)
-      next-round h = record {
+      round-made : opening_room ≤ length strip → Round w0 strip0 (t + 1) (set books i opened) b' (take count strip ++ strip') (count + n)
+      round-made h = record {
         granted = subst (Granted (joined (moves_at w0) rest)) (sym made-here.book)
             (granted-behind (moves_at w0 t) (joined (moves_at w0) rest) b (subst (λ (ms : List Move). Granted ms b) moves-now here.granted));
         book = ap (moved_all (joined (moves_at w0) rest)) made-here.book ∙ sym (moved-join (moves_at w0 t) (joined (moves_at w0) rest) b) ∙ ap (λ (ms : List Move). moved_all ms b) (sym moves-now) ∙ here.book;
         sheets =
-            refiled books t opened eight known
+            ap (λ (n : ℕ). sheets_of (set books n opened)) (sym at)
+            ∙ refiled books t opened eight known
             ∙ ap (λ (f : ℕ → Sheet). with_sheet f t (sheet_of opened)) here.sheets
             ∙ ap (with_sheet (opened_below w0 t) t) made-here.sheet
             ∙ fun_ext (one-more-opened w0 t known);
         strips =
-            ap (λ (k : ℕ). written (count + k) (joined (trades_at w0) rest) strip') same_count
-            ∙ ap (written (count + length (trades_at w0 t)) (joined (trades_at w0) rest)) made-here.strips
+            ap (λ (k : ℕ). written (count + k) (joined (trades_at w0) rest) (take count strip ++ strip')) same_count
+            ∙ ap (written (count + length (trades_at w0 t)) (joined (trades_at w0) rest)) (ap (λ (z : List Trade). take count strip ++ z) made-here.strips ∙ written-behind count (trades_at w0 t) strip)
             ∙ written-join count (trades_at w0 t) (joined (trades_at w0) rest) strip (let n = fits_count h in omega arith)
             ∙ ap (λ (xs : List Trade). written count xs strip) (sym trades-now)
             ∙ here.strips;
         counts = omega (arith, counted-now, made-here.trades);
       }
+
+      pub next-round : (t' : ℕ) (after : List Trade) → t + 1 ≡ t' → after ≡ take count strip ++ strip' → opening_room ≤ length strip → Round w0 strip0 t' (set books i opened) b' after (count + n)
+      next-round t' after et ea h =
+          subst (λ (k : ℕ). Round w0 strip0 k (set books i opened) b' after (count + n)) et
+          (subst (λ (z : List Trade). Round w0 strip0 (t + 1) (set books i opened) b' z (count + n)) (sym ea) (round-made h))
 
   -- ---- the end
   all-opened : (u : ℕ) → opened_below w0 12 u ≡ open_sheet w0 u

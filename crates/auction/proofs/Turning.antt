@@ -50,30 +50,29 @@ none-opened s =
 
 -- ---- the turns
 -- after `count` trades: the sheet, the book and the strip as they are, and what they were before the first trade
-pub record Turn (t p currency from : ℕ) (s0 : Sheet) (b0 : Book) (strip0 : List Trade) (s : Sheet) (b : Book) (strip : List Trade) (count : ℕ) : Type 0 where
+pub record Turn (t p currency : ℕ) (s0 : Sheet) (b0 : Book) (strip0 : List Trade) (s : Sheet) (b : Book) (strip : List Trade) (count : ℕ) : Type 0 where
   pub ranked : Ranked (by_price Sell) s.sells
   pub lots : Lots s.buys
   pub granted : Granted (moves_of currency (opening_at_price t p s)) b
   pub book : moved_all (moves_of currency (opening_at_price t p s)) b ≡ moved_all (moves_of currency (opening_at_price t p s0)) b0
   pub sheet : opened_with (opening_at_price t p s) s ≡ opened_with (opening_at_price t p s0) s0
-  pub strips : written (from + count) (trades_of (opening_at_price t p s).deals) strip ≡ written from (trades_of (opening_at_price t p s0).deals) strip0
+  pub strips : written count (trades_of (opening_at_price t p s).deals) strip ≡ written 0 (trades_of (opening_at_price t p s0).deals) strip0
   pub counts : count + length (opening_at_price t p s).deals ≡ length (opening_at_price t p s0).deals
 
-pub starts : (t p currency from : ℕ) (s : Sheet) (b : Book) (strip : List Trade) → Openable currency s (opening_at_price t p s) b → Turn t p currency from s b strip s b strip 0
-starts t p currency from s b strip h =
-    let z : from + 0 ≡ from = omega arith in
+pub starts : (t p currency : ℕ) (s : Sheet) (b : Book) (strip : List Trade) → Openable currency s (opening_at_price t p s) b → Turn t p currency s b strip s b strip 0
+starts t p currency s b strip h =
     record {
       ranked = h.sells_ranked;
       lots = h.buys_lots;
       granted = h.granted;
       book = refl;
       sheet = refl;
-      strips = ap (λ n. written n (trades_of (opening_at_price t p s).deals) strip) z;
+      strips = refl;
       counts = omega arith;
     }
 
-module _ {t p currency from : ℕ} {s0 : Sheet} {b0 : Book} {strip0 : List Trade} {s : Sheet} {b : Book} {strip : List Trade} {count : ℕ}
-    (here : Turn t p currency from s0 b0 strip0 s b strip count) where
+module _ {t p currency : ℕ} {s0 : Sheet} {b0 : Book} {strip0 : List Trade} {s : Sheet} {b : Book} {strip : List Trade} {count : ℕ}
+    (here : Turn t p currency s0 b0 strip0 s b strip count) where
   next : Next t p s (next_deal t p s)
   next = next-is t p s here.ranked here.lots
 
@@ -105,11 +104,10 @@ module _ {t p currency from : ℕ} {s0 : Sheet} {b0 : Book} {strip0 : List Trade
       by (Some d) e f = omega (arith, ap (λ (z : Opened). length z.deals) e, here.counts)
 
   -- a turn
-  after-deal : (d : Deal) → Next t p s (Some d) → from + count < length strip
-      → Turn t p currency from s0 b0 strip0 (traded_on d.trade s) (moved_all (settlement currency d) b) (set strip (from + count) d.trade) (count + 1)
+  after-deal : (d : Deal) → Next t p s (Some d) → count < length strip
+      → Turn t p currency s0 b0 strip0 (traded_on d.trade s) (moved_all (settlement currency d) b) (set strip count d.trade) (count + 1)
   after-deal d e room =
       let o = opening_at_price t p (traded_on d.trade s) in
-      let k : from + (count + 1) ≡ from + count + 1 = omega arith in
       record {
         ranked = taken-ranked d.trade.lots s.sells here.ranked;
         lots = taken-lots d.trade.lots s.buys here.lots;
@@ -117,36 +115,35 @@ module _ {t p currency from : ℕ} {s0 : Sheet} {b0 : Book} {strip0 : List Trade
         book = sym (moved-join (settlement currency d) (moves_of currency o) b) ∙ ap (λ (z : Opened). moved_all (moves_of currency z) b) (sym e) ∙ here.book;
         sheet = sym (one-opened d o s) ∙ ap (λ (z : Opened). opened_with z s) (sym e) ∙ here.sheet;
         strips =
-            ap (λ n. written n (trades_of o.deals) (set strip (from + count) d.trade)) k
-            ∙ written_one (from + count) d.trade (trades_of o.deals) strip room
-            ∙ ap (λ (z : Opened). written (from + count) (trades_of z.deals) strip) (sym e)
+            written_one count d.trade (trades_of o.deals) strip room
+            ∙ ap (λ (z : Opened). written count (trades_of z.deals) strip) (sym e)
             ∙ here.strips;
         counts = omega (arith, ap (λ (z : Opened). length z.deals) e, here.counts);
       }
 
-  pub turned : (x : Trade) (s' : Sheet) (b' : Book) → from + count < length strip → Some x ≡ trade_in (next_deal t p s) → b' ≡ moved_all (deal_moves currency (next_deal t p s)) b → s' ≡ after_trade (Some x) s
-      → Turn t p currency from s0 b0 strip0 s' b' (set strip (from + count) x) (count + 1)
+  pub turned : (x : Trade) (s' : Sheet) (b' : Book) → count < length strip → Some x ≡ trade_in (next_deal t p s) → b' ≡ moved_all (deal_moves currency (next_deal t p s)) b → s' ≡ after_trade (Some x) s
+      → Turn t p currency s0 b0 strip0 s' b' (set strip count x) (count + 1)
   turned x s' b' room f g h = by (next_deal t p s) next f g
     where
-      by : (o : Option Deal) → Next t p s o → Some x ≡ trade_in o → b' ≡ moved_all (deal_moves currency o) b → Turn t p currency from s0 b0 strip0 s' b' (set strip (from + count) x) (count + 1)
+      by : (o : Option Deal) → Next t p s o → Some x ≡ trade_in o → b' ≡ moved_all (deal_moves currency o) b → Turn t p currency s0 b0 strip0 s' b' (set strip count x) (count + 1)
       by None e f g = absurd (let z : ◌≡◌ {A = ℕ} 0 1 = cc in omega arith)
       by (Some d) e f g =
           let same : d.trade ≡ x = cc in
-          subst (λ (z : Book). Turn t p currency from s0 b0 strip0 s' z (set strip (from + count) x) (count + 1)) (sym g)
-          (subst (λ (z : Sheet). Turn t p currency from s0 b0 strip0 z (moved_all (settlement currency d) b) (set strip (from + count) x) (count + 1)) (sym h)
-          (subst (λ (z : Trade). Turn t p currency from s0 b0 strip0 (traded_on z s) (moved_all (settlement currency d) b) (set strip (from + count) z) (count + 1)) same (after-deal d e room)))
+          subst (λ (z : Book). Turn t p currency s0 b0 strip0 s' z (set strip count x) (count + 1)) (sym g)
+          (subst (λ (z : Sheet). Turn t p currency s0 b0 strip0 z (moved_all (settlement currency d) b) (set strip count x) (count + 1)) (sym h)
+          (subst (λ (z : Trade). Turn t p currency s0 b0 strip0 (traded_on z s) (moved_all (settlement currency d) b) (set strip count z) (count + 1)) same (after-deal d e room)))
 
   -- the end
   pub ended : (s' : Sheet) (b' : Book) → None ≡ trade_in (next_deal t p s) → b' ≡ moved_all (deal_moves currency (next_deal t p s)) b → s' ≡ s
-      → Made currency from (opening_at_price t p s0) s0 b0 strip0 s' b' strip count
+      → Made currency (opening_at_price t p s0) s0 b0 strip0 s' b' strip count
   ended s' b' f g h = by (next_deal t p s) next f g
     where
-      by : (o : Option Deal) → Next t p s o → None ≡ trade_in o → b' ≡ moved_all (deal_moves currency o) b → Made currency from (opening_at_price t p s0) s0 b0 strip0 s' b' strip count
+      by : (o : Option Deal) → Next t p s o → None ≡ trade_in o → b' ≡ moved_all (deal_moves currency o) b → Made currency (opening_at_price t p s0) s0 b0 strip0 s' b' strip count
       by (Some d) e f g = absurd (let z : ◌≡◌ {A = ℕ} 0 1 = cc in omega arith)
       by None e f g =
           record {
             trades = omega (arith, ap (λ (z : Opened). length z.deals) e, here.counts);
-            strips = sym (written_none (from + count) strip) ∙ ap (λ (z : Opened). written (from + count) (trades_of z.deals) strip) (sym e) ∙ here.strips;
+            strips = sym (written_none count strip) ∙ ap (λ (z : Opened). written count (trades_of z.deals) strip) (sym e) ∙ here.strips;
             book = g ∙ ap (λ (z : Opened). moved_all (moves_of currency z) b) (sym e) ∙ here.book;
             sheet = h ∙ sym (none-opened s) ∙ ap (λ (z : Opened). opened_with z s) (sym e) ∙ here.sheet;
           }
@@ -156,8 +153,8 @@ pub priced-opening : (t price : ℕ) (s : Sheet) → Some price ≡ opening_pric
 unfolding opening
 priced-opening t price s e = ap (λ (o : Option ℕ). opening_at t o s.buys s.sells) (sym e)
 
-pub no-opening : (t currency from : ℕ) (s : Sheet) (b : Book) (strip : List Trade) → None ≡ opening_price_lem s.buys s.sells → Made currency from (opening_of t s) s b strip s b strip 0
+pub no-opening : (t currency : ℕ) (s : Sheet) (b : Book) (strip : List Trade) → None ≡ opening_price_lem s.buys s.sells → Made currency (opening_of t s) s b strip s b strip 0
 unfolding opening
-no-opening t currency from s b strip e =
-    subst (λ (o : Option ℕ). Made currency from (opening_at t o s.buys s.sells) s b strip s b strip 0) e
-    (record { trades = refl; strips = sym (written_none from strip); book = refl; sheet = sym (none-opened s) })
+no-opening t currency s b strip e =
+    subst (λ (o : Option ℕ). Made currency (opening_at t o s.buys s.sells) s b strip s b strip 0) e
+    (record { trades = refl; strips = sym (written_none 0 strip); book = refl; sheet = sym (none-opened s) })

@@ -43,10 +43,10 @@ pub record Openable (currency : ℕ) (s : Sheet) (o : Opened) (b : Book) : Type 
   pub granted : Granted (flat_map (settlement currency) o.deals) b
   pub sums : SumsHeld (opened_with o s)
 
--- an opening is made: so many trades, from a place of the strip on; book and sheet as they settle it
-pub record Made (currency from : ℕ) (o : Opened) (s0 : Sheet) (b0 : Book) (strip0 : List Trade) (s : Sheet) (b : Book) (strip : List Trade) (count : ℕ) : Type 0 where
+-- an opening is made: so many trades, at the front of the strip; book and sheet as they settle it
+pub record Made (currency : ℕ) (o : Opened) (s0 : Sheet) (b0 : Book) (strip0 : List Trade) (s : Sheet) (b : Book) (strip : List Trade) (count : ℕ) : Type 0 where
   pub trades : count ≡ length o.deals
-  pub strips : strip ≡ written from (trades_of o.deals) strip0
+  pub strips : strip ≡ written 0 (trades_of o.deals) strip0
   pub book : b ≡ moved_all (flat_map (settlement currency) o.deals) b0
   pub sheet : s ≡ opened_with o s0
 

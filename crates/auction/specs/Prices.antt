@@ -4,7 +4,10 @@ use Rattle.rules.specs.declared.bid.Side.TheVariants.{Buy, Sell}
 use Rattle.model.specs.declared.words.Standing.{Standing}
 use Rattle.model.specs.Queues.{by_price}
 use Rattle.model.specs.Opening.{tradable, gap}
-use Rattle.ranking.specs.Ranks.{Ranked}
+use Rattle.std.specs.Coded.{×_prop, Unit-prop, le_prop}
+use Rattle.std.specs.List.{AllByRecursion-prop}
+use Rattle.std.proofs.Props.{props}
+use Rattle.ranking.specs.Ranks.{Pairwise, Ranked}
 use Rattle.auction.specs.declared.prices.Candidate.{Candidate}
 
 -- the two queues of a ticker: ranked, with at most 64 bids each
@@ -13,6 +16,14 @@ pub record RankedQueues (buys sells : List Standing) : Type 0 where
   pub sells_ranked : Ranked (by_price Sell) sells
   pub buys_few : length buys ≤ 64
   pub sells_few : length sells ≤ 64
+
+-- there is one proof of it at most, so that a struct can hold it
+pub Pairwise-prop : {E : Type 0} (R : E → E → Type 0) → ((x y : E) → IsProp (R x y)) → (xs : List E) → IsProp (Pairwise R xs)
+Pairwise-prop R p [] = Unit-prop
+Pairwise-prop R p (x ∷ xs) = ×_prop (AllByRecursion-prop (R x) (p x) xs) (Pairwise-prop R p xs)
+
+pub RankedQueues-prop : (buys sells : List Standing) → IsProp (RankedQueues buys sells)
+RankedQueues-prop buys sells = hlevel (props, le_prop, Pairwise-prop)
 
 -- a price with its numbers
 abbrev pub candidate_at : List Standing → List Standing → ℕ → Candidate

@@ -13,52 +13,12 @@ use register::registers::Register;
 use register::slips::Slip;
 use rules::Side;
 
-// The first buy and the first sell, where both reach the price.
-fn first_pair(book: &TickerBook, price: u32) -> Option<(Standing, Standing)>
-    ensures { result ≡ pair_of price (first_of (entries book.now.buys)) (first_of (entries book.now.sells)) }
-{
-    let Some(buy) = book.buys.first() else {
-        return None;
-    };
-    let Some(sell) = book.sells.first() else {
-        return None;
-    };
-    let bought = reaches(&buy, Side::Buy, price);
-    let sold = reaches(&sell, Side::Sell, price);
-    if bought && sold {
-        Some((buy, sell))
-    } else {
-        None
-    }
-}
-
-// Trades as many lots as both bids have. The buyer has blocked his own price; what that is beyond the trade's goes back to him.
-fn settle_pair<R: Register>(
-    register: &mut R,
-    buy: Standing,
-    sell: Standing,
-    ticker: u8,
-    currency: u8,
-    price: u32,
-) -> Trade
-    requires granted { Granted (settlement currency (pair_deal ticker price buy sell)) (R.Register.means register.old) }
-    requires reached { price ≤ buy.price }
-    ensures trade { result ≡ (pair_deal ticker price buy sell).trade }
-    ensures book { R.Register.means register.new ≡ moved_all (settlement currency (pair_deal ticker price buy sell)) (R.Register.means register.old) }
-{
-    let lots = buy.lots.min(sell.lots);
-    let cash = Slip::new(buy.holder, currency, buy.price as u64 * lots as u64);
-    let goods = Slip::new(sell.holder, ticker, lots as u64);
-    settle(register, cash, goods, price as u64 * lots as u64);
-    Trade {
-        ticker,
-        buyer: buy.holder,
-        seller: sell.holder,
-        buy: buy.number,
-        sell: sell.number,
-        price,
-        lots,
-    }
+// The opening of a ticker: which it is, the currency that it is paid in, and the price of its trades.
+#[derive(Clone, Copy)]
+pub struct Auction {
+    pub ticker: u8,
+    pub currency: u8,
+    pub price: u32,
 }
 
 // Takes a trade's lots from the first bids of both queues, and adds it to the sums.
@@ -68,28 +28,54 @@ fn note_trade(book: &mut TickerBook, trade: Trade)
 {
     book.buys.take_lots(trade.lots);
     book.sells.take_lots(trade.lots);
-    book.worth += trade.price as u64 * trade.lots as u64;
-    book.traded += trade.lots as u64;
+    book.worth += u64::from(trade.price) * u64::from(trade.lots);
+    book.traded += u64::from(trade.lots);
 }
 
-// The next trade at the price, made at the register and noted in the book; none where the two first bids do not both reach it.
-pub fn auction_one<R: Register>(
-    register: &mut R,
-    book: &mut TickerBook,
-    ticker: u8,
-    currency: u8,
-    price: u32,
-) -> Option<Trade>
-    requires granted { Granted (deal_moves currency (next_deal ticker price (sheet_of book.old))) (R.Register.means register.old) }
-    requires sums { SumsHeld (after_trade (trade_in (next_deal ticker price (sheet_of book.old))) (sheet_of book.old)) }
-    ensures trade { result ≡ trade_in (next_deal ticker price (sheet_of book.old)) }
-    ensures book { R.Register.means register.new ≡ moved_all (deal_moves currency (next_deal ticker price (sheet_of book.old))) (R.Register.means register.old) }
-    ensures sheet { sheet_of book.new ≡ after_trade result (sheet_of book.old) }
-{
-    let Some((buy, sell)) = first_pair(book, price) else {
-        return None;
-    };
-    let trade = settle_pair(register, buy, sell, ticker, currency, price);
-    note_trade(book, trade);
-    Some(trade)
+impl Auction {
+    // The first buy and the first sell, where both reach the price.
+    fn first_pair(&self, book: &TickerBook) -> Option<(Standing, Standing)>
+        ensures { result ≡ pair_of self.now.price (first_of (entries book.now.buys)) (first_of (entries book.now.sells)) }
+    {
+        let (buy, sell) = book.buys.first().zip(book.sells.first())?;
+        let bought = reaches(&buy, Side::Buy, self.price);
+        let sold = reaches(&sell, Side::Sell, self.price);
+        (bought && sold).then_some((buy, sell))
+    }
+
+    // Trades as many lots as both bids have. The buyer has blocked his own price; what that is beyond the trade's goes back to him.
+    fn settle_pair<R: Register>(&self, register: &mut R, buy: Standing, sell: Standing) -> Trade
+        requires granted { Granted (settlement self.now.currency (pair_deal self.now.ticker self.now.price buy sell)) (R.Register.means register.old) }
+        requires reached { self.now.price ≤ buy.price }
+        ensures trade { result ≡ (pair_deal self.now.ticker self.now.price buy sell).trade }
+        ensures book { R.Register.means register.new ≡ moved_all (settlement self.now.currency (pair_deal self.now.ticker self.now.price buy sell)) (R.Register.means register.old) }
+    {
+        let lots = buy.lots.min(sell.lots);
+        let cash = Slip::new(buy.holder, self.currency, buy.price as u64 * lots as u64);
+        let goods = Slip::new(sell.holder, self.ticker, lots as u64);
+        settle(register, cash, goods, self.price as u64 * lots as u64);
+        Trade {
+            ticker: self.ticker,
+            buyer: buy.holder,
+            seller: sell.holder,
+            buy: buy.number,
+            sell: sell.number,
+            price: self.price,
+            lots,
+        }
+    }
+
+    // The next trade at the price, made at the register and noted in the book; none where the two first bids do not both reach it.
+    pub fn next_trade<R: Register>(&self, register: &mut R, book: &mut TickerBook) -> Option<Trade>
+        requires granted { Granted (deal_moves self.now.currency (next_deal self.now.ticker self.now.price (sheet_of book.old))) (R.Register.means register.old) }
+        requires sums { SumsHeld (after_trade (trade_in (next_deal self.now.ticker self.now.price (sheet_of book.old))) (sheet_of book.old)) }
+        ensures trade { result ≡ trade_in (next_deal self.now.ticker self.now.price (sheet_of book.old)) }
+        ensures book { R.Register.means register.new ≡ moved_all (deal_moves self.now.currency (next_deal self.now.ticker self.now.price (sheet_of book.old))) (R.Register.means register.old) }
+        ensures sheet { sheet_of book.new ≡ after_trade result (sheet_of book.old) }
+    {
+        let (buy, sell) = self.first_pair(book)?;
+        let trade = self.settle_pair(register, buy, sell);
+        note_trade(book, trade);
+        Some(trade)
+    }
 }

@@ -39,13 +39,8 @@ pub fn reach(bids: &[Standing], side: Side, price: u32) -> usize
     ensures within { result ≤ length bids.now }
     ensures place { result ≡ first_place (λ x. not (reaches_at side price x)) bids.now }
 {
-    for (i, bid) in bids.iter().enumerate() {
-        let reached = reaches(bid, side, price);
-        if !reached {
-            return i;
-        }
-    }
-    bids.len()
+    let end = bids.iter().position(|bid| !reaches(bid, side, price));
+    end.unwrap_or(bids.len())
 }
 
 // The demand of buys or the supply of sells at a price.

@@ -1,5 +1,5 @@
 // Caps: free is asked before the cap, and the uppermost exceeded cap names itself.
-use layers::caps::CapLayer;
+use layers::caps::{CapLayer, Caps};
 use layers::piles::Pile;
 use register::registers::Register;
 use registers::list::ListRegister;
@@ -36,7 +36,11 @@ fn account<R: Register>(register: &R, holder: u8, asset: u8) -> (u64, u64, u64) 
 
 #[test]
 fn free_before_cap(rt: HostRuntime) {
-    let mut register = CapLayer::new(TableRegister::empty(), [1000; 12], 7);
+    let caps = Caps {
+        amounts: [1000; 12],
+        tag: 7,
+    };
+    let mut register = CapLayer::new(TableRegister::empty(), caps);
     let first = deposit(&mut register, 0, 0, 900);
     let held = block(&mut register, 0, 0, 600);
     let shown = account(&register, 0, 0);
@@ -79,19 +83,23 @@ fn two_layers<R: Register>(rt: &impl Abort, register: &mut R, a: u8, b: u8) -> R
 // Asset 0 is kept by the first register, asset 4 by the second.
 #[test]
 fn uppermost_names_itself(rt: HostRuntime) -> Result<(), Fail> {
-    let lower = [
-        100, MOST, MOST, MOST, 50, MOST, MOST, MOST, MOST, MOST, MOST, MOST,
-    ];
-    let upper = [
-        50, MOST, MOST, MOST, 100, MOST, MOST, MOST, MOST, MOST, MOST, MOST,
-    ];
+    let lower = Caps {
+        amounts: [
+            100, MOST, MOST, MOST, 50, MOST, MOST, MOST, MOST, MOST, MOST, MOST,
+        ],
+        tag: 1,
+    };
+    let upper = Caps {
+        amounts: [
+            50, MOST, MOST, MOST, 100, MOST, MOST, MOST, MOST, MOST, MOST, MOST,
+        ],
+        tag: 2,
+    };
     let mut register = <CapLayer<CapLayer<layers::splits::Split<_, _>>> as Pile<_, _>>::pile(
         TableRegister::empty(),
         ListRegister::empty(),
         lower,
-        1,
         upper,
-        2,
     );
     let result = two_layers(&rt, &mut register, 0, 4);
     let (first, second) = register.into_below().into_below().into_parts();

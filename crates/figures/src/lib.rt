@@ -4,6 +4,4 @@
 #[cfg(test)]
 mod caps;
 #[cfg(test)]
-mod lines;
-#[cfg(test)]
 mod registers_agree;

@@ -1,3 +1,12 @@
 pub mod Agreeing
-pub mod Filed
-pub mod Heads
+pub mod Passing
+pub mod Outlined
+pub mod Called
+pub mod Bidden
+pub mod Bargained
+pub mod TakenBack
+pub mod Starting
+pub mod Ending
+pub mod OpenedFloor
+pub mod Running
+pub mod Listed

@@ -1,4 +1,11 @@
-pub mod Entries
-pub mod Sheets
 pub mod Desks
 pub mod Events
+pub mod Asking
+pub mod Floors
+pub mod Replies
+pub mod Blocking
+pub mod Bargains
+pub mod Ends
+pub mod Fairness
+pub mod Lists
+pub mod Making

@@ -1,13 +1,15 @@
 // What a floor keeps beside its register and its rule.
 ghost use Rattle.std.specs.Prelude.{◌≡◌, length};
 
-use crate::books::TickerBook;
 use model::words::{Listing, Session};
+use queues::books::TickerBook;
 
-mod filing;
+mod admitting;
+pub(crate) mod asking;
+pub(crate) mod filing;
 
 // `given` counts the registration numbers of the day; the books are those of the tickers 4 to 11.
-#[derive(Clone, Copy)]
+#[derive(Drop)]
 pub struct Desk {
     pub session: Session,
     pub listing: Listing,

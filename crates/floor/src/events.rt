@@ -56,8 +56,6 @@ pub fn allowed(session: Session, event: Event) -> Result<Session, FloorRefusal>
 }
 
 // The events' table is that of the calls' definitions: the first check of each, and the session that it leads to.
-pub fn events_agree() -> u8
+pub fn events_agree()
     ensures { EventsAgree }
-{
-    0
-}
+{}

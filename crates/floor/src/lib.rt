@@ -1,11 +1,12 @@
-// A trading floor: its queues, its ticker books, and what each session lets run.
+// A trading floor: what it keeps, what each session lets run, and its calls.
 #![tactic(auto)]
 
-pub mod books;
 pub mod desk;
 pub mod events;
+mod faults;
+pub mod floors;
 pub mod passes;
-pub mod queue;
-pub mod rankings;
+pub mod runner;
+mod state;
 #[cfg(test)]
 mod tests;

@@ -1,4 +1,5 @@
 // Passes: who holds one may bid and cancel in its session. They are moved, never copied, and only a floor gives them out.
+// Kept as three types: a pass is told from another by its type alone, and one generic pass would want as many marks.
 ghost use Rattle.std.specs.Prelude.{◌≡◌};
 ghost use Rattle.model.specs.declared.words.Session.{Session};
 ghost use Rattle.model.specs.declared.words.Session.TheVariants.{PreTrading, Trading, PostTrading};
@@ -27,6 +28,27 @@ pub struct TradingPass {
 #[derive(Drop)]
 pub struct PostTradingPass {
     given: (),
+}
+
+impl PreTradingPass {
+    // The start of a day gives it.
+    pub(crate) fn new() -> PreTradingPass {
+        PreTradingPass { given: () }
+    }
+
+    // The opening takes it and gives the next.
+    pub(crate) fn open(self) -> TradingPass {
+        let PreTradingPass { given } = self;
+        TradingPass { given }
+    }
+}
+
+impl TradingPass {
+    // The end of trading takes it and gives the next.
+    pub(crate) fn end(self) -> PostTradingPass {
+        let TradingPass { given } = self;
+        PostTradingPass { given }
+    }
 }
 
 impl Pass for PreTradingPass {

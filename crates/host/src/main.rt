@@ -1,134 +1,167 @@
 // The program: reads calls from standard input, one a line, and answers each.
 #![tactic(auto)]
 
-ghost use Rattle.std.specs.Prelude.{◌≡◌};
-ghost use Rattle.script.specs.Replies.{after_line};
-
-use anyhow::anyhow;
-use layers::caps::CapLayer;
+use floor::floors::Floor;
+use floor::runner::run;
+use layers::caps::{CapLayer, Caps};
 use layers::splits::Split;
 use register::registers::Register;
 use registers::list::ListRegister;
 use registers::table::TableRegister;
-use script::answers::{Answer, answer_line, entry_line, error_line, list_entry, perform_line};
-use script::options::{Kind, OptionFault, Options};
+use replies::reply;
+use rules::{Corporate, Government, MarketRule};
+use script::options::{Options, RegisterKind, RuleKind};
 use std::io::{BufRead, BufReader};
 use std::{env, io};
+use tapes::Tape;
 
-const HELP: &str = "host [--register table|list|split] [--cap ASSET=AMOUNT]..
+mod calls;
+mod looks;
+mod replies;
+mod tapes;
+mod texts;
+
+const HELP: &str =
+    "host [--rule corporate|government] [--register table|list|split] [--cap ASSET=AMOUNT]..
 Reads calls from standard input, one a line, and answers each. `#` starts a comment.
 
+  --rule corporate|government   the market rule (corporate)
   --register table|list|split   how the accounts are kept (table)
   --cap ASSET=AMOUNT            the most that a holder may have blocked of an asset
 
-deposit HOLDER ASSET AMOUNT     adds to what is free
-withdraw HOLDER ASSET AMOUNT    takes from what is free
-read HOLDER ASSET               shows one account
-accounts                        shows each account that has something free or blocked
+start C:S C:S C:S C:S C:S C:S C:S C:S   starts a day: currency and settlement price of the tickers 4 to 11
+deposit HOLDER ASSET AMOUNT             adds to what is free
+withdraw HOLDER ASSET AMOUNT            takes from what is free
+bid SESSION HOLDER TICKER buy|sell PRICE|- LOTS partial|entire keep|withdraw [ROOM]
+                                        makes a bid; - is no price
+cancel SESSION HOLDER TICKER NUMBER     takes out a standing bid
+open [ROOM]                             opens trading
+end-trading                             ends trading
+end-post-trading                        ends post-trading, and the day
+read HOLDER ASSET                       shows one account
+accounts                                shows each account that has something free or blocked
+queue TICKER buy|sell                   shows the standing bids of one side
+average TICKER                          shows the average price of the ticker's trades
+session                                 shows the session
 
+SESSION is pre, trading or post: the session whose pass is shown. ROOM is how many records are lent for the trades.
 Holders are 0 to 15. Assets 0 to 3 are currencies, 4 to 11 are tickers.";
 
 // The tag by which the program's own caps name themselves.
 const CAP_TAG: u32 = 1;
 
-// One line for each account that has something free or blocked, by holder and then asset.
-fn list_accounts<R: Register>(rt: &HostRuntime, register: &R) -> io::Result<()> {
-    for holder in 0..16 {
-        for asset in 0..12 {
-            if let Some(entry) = list_entry(register, holder, asset) {
-                rt.println(entry_line(rt.alloc(), entry)?)?;
-            }
-        }
+// Answers are written out in blocks of about this many bytes.
+const BLOCK: usize = 65_536;
+
+// Reads the next line, without its newline, and answers whether there was one.
+fn read_line<B: BufRead>(input: &mut B, line: &mut Vec<u8>) -> io::Result<bool> {
+    line.clear();
+    if input.read_until(b'\n', line)? == 0 {
+        return Ok(false);
     }
+    if let Some(b'\n') = line.as_slice().last() {
+        line.pop();
+    }
+    Ok(true)
+}
+
+// Writes out what was told so far.
+fn write_out(rt: &HostRuntime, text: &mut String) -> io::Result<()> {
+    rt.write_all(text.as_bytes())?;
+    text.clear();
     Ok(())
 }
 
-// Answers one line of input.
-fn reply<R: Register>(
+// Answers every line of the input. What was told is written out before more input is waited for.
+fn serve<R: Register, M: MarketRule>(rt: &HostRuntime, floor: &mut Floor<R, M>) -> io::Result<()> {
+    let heap = rt.alloc();
+    let mut input = BufReader::new(heap, rt.stdin())?;
+    let mut line = Vec::new(heap);
+    let mut text = String::new(heap);
+    let mut tape = Tape::new();
+    for number in 1..u64::MAX {
+        if text.len() >= BLOCK || !input.buffer().contains(&b'\n') {
+            write_out(rt, &mut text)?;
+        }
+        if !read_line(&mut input, &mut line)? {
+            break;
+        }
+        reply(&mut text, floor, &mut tape, number, line.as_slice())?;
+    }
+    write_out(rt, &mut text)
+}
+
+// Serves on a floor over this register, and hands the register back.
+fn serve_floor<R: Register, M: MarketRule + Drop>(
     rt: &HostRuntime,
-    register: &mut R,
-    number: u64,
-    line: &[u8],
-) -> io::Result<()>
-    ensures { R.Register.means register.new ≡ after_line (R.Register.means register.old) line.now }
-{
-    match perform_line(register, line) {
-        Ok(None) => Ok(()),
-        Ok(Some(Answer::Listing)) => list_accounts(rt, register),
-        Ok(Some(answer)) => rt.println(answer_line(rt.alloc(), answer)?),
-        Err(fault) => rt.println(error_line(rt.alloc(), number, fault)?),
-    }
+    register: R,
+    rule: M,
+) -> (io::Result<()>, R) {
+    let mut floor = run(register, rule, &[], &mut [], &mut []);
+    let served = serve(rt, &mut floor);
+    let (register, _rule) = floor.take_apart();
+    (served, register)
 }
 
-fn serve<R: Register>(rt: &HostRuntime, register: &mut R) -> io::Result<()> {
-    let mut number = 0u64;
-    for line in BufReader::new(rt.alloc(), rt.stdin())?.split(rt.alloc(), b'\n') {
-        let line = line?;
-        number = number.saturating_add(1);
-        reply(rt, register, number, line.as_slice())?;
-    }
-    Ok(())
+// Serves under the rule and the caps that were asked for. Kept as a match, here and below: each rule and each register is of a type of
+// its own.
+fn serve_over<R: Register>(
+    rt: &HostRuntime,
+    register: R,
+    options: &Options,
+) -> (io::Result<()>, R) {
+    let amounts = options.caps;
+    let caps = Caps {
+        amounts,
+        tag: CAP_TAG,
+    };
+    let capped = CapLayer::new(register, caps);
+    let (served, capped) = match options.rule {
+        RuleKind::Corporate => serve_floor(rt, capped, Corporate),
+        RuleKind::Government => serve_floor(rt, capped, Government),
+    };
+    (served, capped.into_below())
 }
 
-// Serves from the kind of register that was asked for, under the caps that were asked for.
-fn serve_from(rt: &HostRuntime, options: Options) -> io::Result<()> {
-    let caps = options.caps;
-    match options.kind {
-        Kind::Table => {
-            let mut register = CapLayer::new(TableRegister::empty(), caps, CAP_TAG);
-            let result = serve(rt, &mut register);
-            register.into_below();
-            result
+// Serves from the kind of register that was asked for.
+fn serve_from(rt: &HostRuntime, options: &Options) -> io::Result<()> {
+    match options.register {
+        RegisterKind::Table => {
+            let (served, _register) = serve_over(rt, TableRegister::empty(), options);
+            served
         }
-        Kind::List => {
-            let mut register = CapLayer::new(ListRegister::empty(), caps, CAP_TAG);
-            let result = serve(rt, &mut register);
-            register.into_below();
-            result
+        RegisterKind::List => {
+            let (served, _register) = serve_over(rt, ListRegister::empty(), options);
+            served
         }
-        Kind::Split => {
+        RegisterKind::Split => {
             let split = Split::new(TableRegister::empty(), ListRegister::empty());
-            let mut register = CapLayer::new(split, caps, CAP_TAG);
-            let result = serve(rt, &mut register);
-            let (_first, _second) = register.into_below().into_parts();
-            result
+            let (served, split) = serve_over(rt, split, options);
+            let (_first, _second) = split.into_parts();
+            served
         }
-    }
-}
-
-fn option_text(fault: OptionFault) -> &'static str {
-    match fault {
-        OptionFault::UnknownOption => "no such option: see --help",
-        OptionFault::UnknownRegister => "--register takes table, list or split",
-        OptionFault::BadCap => "--cap takes ASSET=AMOUNT, an asset from 0 to 11",
-        OptionFault::ValueMissing => "the last option wants a value",
     }
 }
 
 fn read_options(rt: &HostRuntime) -> anyhow::Result<Options> {
-    let mut options = Options::none();
-    for word in env::args(rt)?.skip(1) {
-        options = match options.with_word(word.as_str().as_bytes()) {
-            Ok(options) => options,
-            Err(fault) => return Err(anyhow!("{}", option_text(fault))),
-        };
-    }
-    match options.complete() {
-        Ok(options) => Ok(options),
-        Err(fault) => Err(anyhow!("{}", option_text(fault))),
-    }
+    let options = env::args(rt)?
+        .skip(1)
+        .try_fold(Options::none(), |options, word| {
+            options.with_word(word.as_str().as_bytes())
+        })?;
+    Ok(options.complete()?)
 }
 
-fn run(rt: &HostRuntime) -> anyhow::Result<()> {
+fn answer(rt: &HostRuntime) -> anyhow::Result<()> {
     let options = read_options(rt)?;
     if options.help {
         rt.println(HELP)?;
     } else {
-        serve_from(rt, options)?;
+        serve_from(rt, &options)?;
     }
     Ok(())
 }
 
 fn main(rt: HostRuntime) -> anyhow::Result<()> {
-    run(&rt)
+    answer(&rt)
 }

@@ -1,9 +1,10 @@
 -- Two cap layers over a book that agrees with a register at an asset.
-use Rattle.std.proofs.Common.{◌≡◌, ℕ, ◌+◌, ◌<◌, ◌≤◌, min, true, false, ◌⊎◌, List, sym, inl, inr, arith}
+use Rattle.std.proofs.Common.{◌≡◌, ℕ, ◌+◌, ◌<◌, ◌≤◌, min, true, false, ◌⊎◌, sym, inl, inr, arith}
 use Rattle.std.proofs.lemmas.Bool.Decides.{nat_tests}
 use Rattle.std.proofs.lemmas.Bool.{lt-ltb, le-ltb, cases_lt}
 use Rattle.register.specs.Books.{Book}
 use Rattle.register.specs.Moves.{Deposit, Withdraw, Release, Pay}
+use Rattle.layers.specs.declared.caps.Caps.{Caps}
 use Rattle.layers.specs.Layers.{capped, split}
 use Rattle.layers.specs.Piles.{Smallest, Shows, Piled}
 use Rattle.layers.specs.Agreeing.{Agree, refusal-agree}
@@ -16,11 +17,11 @@ smallest l m k n e = record { first = omega arith; second = omega arith; third =
     which (inl le) = elim (cases_lt l n) [ inl lt ↦ inl (omega arith) | inr ge ↦ inr (inr (omega arith)) ]
     which (inr le) = elim (cases_lt m n) [ inl lt ↦ inr (inl (omega arith)) | inr ge ↦ inr (inr (omega arith)) ]
 
-module _ (upper : List ℕ) (ut : ℕ) (lower : List ℕ) (lt : ℕ) where
+module _ (upper lower : Caps) where
   abbrev piled-on : Book → Book
-  piled-on b = capped upper ut (capped lower lt b)
+  piled-on b = capped upper (capped lower b)
 
-  shown : (b c : Book) (a : ℕ) → Agree a b c → Shows upper ut lower lt (piled-on b) c a
+  shown : (b c : Book) (a : ℕ) → Agree a b c → Shows upper lower (piled-on b) c a
   shown b c a e = record {
     account = record {
       free = e.free;
@@ -42,7 +43,7 @@ module _ (upper : List ℕ) (ut : ℕ) (lower : List ℕ) (lt : ℕ) where
     };
   }
 
-  pub piled : (p q : Book) → Piled upper ut lower lt p q (piled-on (split p q))
+  pub piled : (p q : Book) → Piled upper lower p q (piled-on (split p q))
   piled p q = record {
     first = λ a l. shown (split p q) p a (own true p q a (sym (lt-ltb a 4 l)));
     second = λ a l. shown (split p q) q a (own false q p a (sym (le-ltb a 4 l)));

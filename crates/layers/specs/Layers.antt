@@ -1,19 +1,20 @@
 -- What a register made of others means.
-use Rattle.std.specs.Prelude.{ℕ, min, cond, List, nat_le, nat_lt, slice_index}
+use Rattle.std.specs.Prelude.{ℕ, min, cond, nat_le, nat_lt, slice_index}
 use Rattle.register.specs.Books.{Book}
+use Rattle.layers.specs.declared.caps.Caps.{Caps}
 
 -- a layer's cap for an asset
-abbrev pub cap_for : List ℕ → ℕ → ℕ
-cap_for caps a = slice_index caps a
+abbrev pub cap_for : Caps → ℕ → ℕ
+cap_for caps a = slice_index caps.amounts a
 
--- the book b under caps of its own, one for each asset. A blocked sum above them is refused in the name t,
--- whatever stands below; one within them as b has it
-abbrev pub capped : List ℕ → ℕ → Book → Book
-capped caps t b = record {
+-- the book b under caps of its own. A blocked sum above them is refused in the name of their tag, whatever
+-- stands below; one within them as b has it
+abbrev pub capped : Caps → Book → Book
+capped caps b = record {
   free = b.free;
   blocked = b.blocked;
   limit = λ h a. min (cap_for caps a) (b.limit h a);
-  tag = λ h a n. cond (nat_le n (cap_for caps a)) (b.tag h a n) t;
+  tag = λ h a n. cond (nat_le n (cap_for caps a)) (b.tag h a n) caps.tag;
 }
 
 -- the book p for assets 0 to 3, and q for all others

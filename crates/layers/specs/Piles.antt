@@ -1,8 +1,9 @@
 -- Two cap layers over a split of two registers, said in terms of the parts.
-use Rattle.std.specs.Prelude.{◌≡◌, ℕ, ◌+◌, ◌<◌, ◌≤◌, ◌⊎◌, List, Some}
+use Rattle.std.specs.Prelude.{◌≡◌, ℕ, ◌+◌, ◌<◌, ◌≤◌, ◌⊎◌, Some}
 use Rattle.register.specs.declared.faults.RegisterCause.TheVariants.{TooLittleFree, OverCap}
 use Rattle.register.specs.Books.{Book, most_amount}
 use Rattle.register.specs.Moves.{Deposit, Withdraw, Block, Release, Pay, fault, refusal}
+use Rattle.layers.specs.declared.caps.Caps.{Caps}
 use Rattle.layers.specs.Layers.{cap_for}
 
 -- x is the smallest of three numbers: it is one of them, and none is less
@@ -19,12 +20,12 @@ pub record Lawful (h a n : ℕ) : Type 0 where
   pub least : 1 ≤ n
   pub most : n ≤ most_amount
 
-module _ (upper : List ℕ) (upper_tag : ℕ) (lower : List ℕ) (lower_tag : ℕ) where
+module _ (upper lower : Caps) where
   -- who refuses a blocked sum n of an asset: of the two layers the uppermost whose cap it exceeds, else the
   -- register below, which has the tag own for it
   pub record Named (tag own a n : ℕ) : Type 0 where
-    pub over_upper : cap_for upper a < n → tag ≡ upper_tag
-    pub over_lower : n ≤ cap_for upper a → cap_for lower a < n → tag ≡ lower_tag
+    pub over_upper : cap_for upper a < n → tag ≡ upper.tag
+    pub over_lower : n ≤ cap_for upper a → cap_for lower a < n → tag ≡ lower.tag
     pub over_neither : n ≤ cap_for upper a → n ≤ cap_for lower a → tag ≡ own
 
   -- an account of the pile w is the account of the register b, under the smallest of the three caps
@@ -38,9 +39,9 @@ module _ (upper : List ℕ) (upper_tag : ℕ) (lower : List ℕ) (lower_tag : �
   -- layer; and within both layers' caps it is as at the register b
   pub record BlockRefused (w b : Book) (a : ℕ) : Type 0 where
     pub short : (h n : ℕ) → Lawful h a n → b.free h a < n → refusal w (Block h a n) ≡ Some (fault TooLittleFree h a 0)
-    pub by_upper : (h n : ℕ) → Lawful h a n → n ≤ b.free h a → cap_for upper a < b.blocked h a + n → refusal w (Block h a n) ≡ Some (fault OverCap h a upper_tag)
+    pub by_upper : (h n : ℕ) → Lawful h a n → n ≤ b.free h a → cap_for upper a < b.blocked h a + n → refusal w (Block h a n) ≡ Some (fault OverCap h a upper.tag)
     pub by_lower : (h n : ℕ) → Lawful h a n → n ≤ b.free h a → b.blocked h a + n ≤ cap_for upper a → cap_for lower a < b.blocked h a + n →
-        refusal w (Block h a n) ≡ Some (fault OverCap h a lower_tag)
+        refusal w (Block h a n) ≡ Some (fault OverCap h a lower.tag)
     pub below : (h n : ℕ) → b.blocked h a + n ≤ cap_for upper a → b.blocked h a + n ≤ cap_for lower a → refusal w (Block h a n) ≡ refusal b (Block h a n)
 
   -- every other movement at the pile is refused as at the register b, and for the same reason

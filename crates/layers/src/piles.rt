@@ -1,6 +1,6 @@
 ghost use Rattle.layers.specs.Piles.{Piled};
 
-use crate::caps::CapLayer;
+use crate::caps::{CapLayer, Caps};
 use crate::splits::Split;
 use register::registers::Register;
 
@@ -8,27 +8,13 @@ use register::registers::Register;
 // what the whole means, as any other user of a register reads it: every movement at the pile is answered by
 // that meaning.
 pub trait Pile<P: Register, Q: Register>: Register {
-    fn pile(
-        first: P,
-        second: Q,
-        lower: [u64; 12],
-        lower_tag: u32,
-        upper: [u64; 12],
-        upper_tag: u32,
-    ) -> Self
-        ensures { Piled upper upper_tag lower lower_tag (P.Register.means first) (Q.Register.means second) (Self.Register.means result) };
+    fn pile(first: P, second: Q, lower: Caps, upper: Caps) -> Self
+        ensures { Piled upper lower (P.Register.means first) (Q.Register.means second) (Self.Register.means result) };
 }
 
 impl<P: Register, Q: Register> Pile<P, Q> for CapLayer<CapLayer<Split<P, Q>>> {
-    fn pile(
-        first: P,
-        second: Q,
-        lower: [u64; 12],
-        lower_tag: u32,
-        upper: [u64; 12],
-        upper_tag: u32,
-    ) -> CapLayer<CapLayer<Split<P, Q>>> {
-        let capped = CapLayer::new(Split::new(first, second), lower, lower_tag);
-        CapLayer::new(capped, upper, upper_tag)
+    fn pile(first: P, second: Q, lower: Caps, upper: Caps) -> CapLayer<CapLayer<Split<P, Q>>> {
+        let capped = CapLayer::new(Split::new(first, second), lower);
+        CapLayer::new(capped, upper)
     }
 }

@@ -37,6 +37,7 @@ impl<P: Register, Q: Register> Split<P, Q> {
 }
 
 // An asset that nobody knows is the second register's to refuse, as the first would.
+// Kept as it is: the two registers are of two types, so the choice of one stands in each call; a closure for both would be no plainer.
 impl<P: Register, Q: Register> Register for Split<P, Q> {
     ghost means = { λ s. split (P.Register.means s.first) (Q.Register.means s.second) };
 

@@ -4,9 +4,9 @@ use Rattle.std.specs.List.{prefix_len}
 use Rattle.std.proofs.lemmas.Fmt.{digits_decimal, digits_value-decimal, decimal_nonempty}
 use Rattle.std.proofs.lemmas.Str.Parse.{IsNumeralModel, numerals_by_fold}
 use Rattle.std.proofs.lemmas.Bool.Decides.{nat_tests}
-use Rattle.script_calls.specs.Lines.{digit}
-use Rattle.script_calls.specs.Reading.{is_number, number_of, value, most64}
-use Rattle.script_calls.proofs.Cut.{word}
+use Rattle.script.specs.Lines.{digit}
+use Rattle.script.specs.Reading.{is_number, number_of, value, most64}
+use Rattle.script.proofs.Cut.{word}
 use Rattle.lines.proofs.Plain.{Plain, no_hash, passes, leading-whole}
 
 own : IsNumeralModel (λ ds. passes digit ds ≡ true) (value 0)

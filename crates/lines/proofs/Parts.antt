@@ -9,13 +9,13 @@ use Rattle.rules.specs.declared.bid.Side.TheVariants.{Buy, Sell}
 use Rattle.model.specs.declared.words.Quote.{Quote}
 use Rattle.model.specs.declared.words.Session.{Session}
 use Rattle.model.specs.declared.words.Session.TheVariants.{Closed, PreTrading, Trading, PostTrading}
-use Rattle.script_calls.specs.declared.reading.LineFault.{LineFault}
-use Rattle.script_calls.specs.declared.reading.LineFault.TheVariants.{NoQuote}
-use Rattle.script_calls.specs.Bids.{session_of, side_of, price_of_lem, entire_of, keep_of}
-use Rattle.script_calls.specs.Lines.{digit, cut_at, same_word}
-use Rattle.script_calls.specs.Listings.{quote_of, take_quotes_lem}
-use Rattle.script_calls.specs.Reading.{and_then, number_of, taken, most8, most32, most64}
-use Rattle.script_calls.proofs.Cut.{word}
+use Rattle.script.specs.declared.reading.LineFault.{LineFault}
+use Rattle.script.specs.declared.reading.LineFault.TheVariants.{NoQuote}
+use Rattle.script.specs.Bids.{session_of, side_of, price_of_lem, take_form_lem}
+use Rattle.script.specs.Lines.{digit, cut_at, same_word}
+use Rattle.script.specs.Listings.{quote_of, take_quotes_lem}
+use Rattle.script.specs.Reading.{and_then, number_of, taken, most8, most32, most64}
+use Rattle.script.proofs.Cut.{word}
 use Rattle.lines.specs.Writing.{side_word, pass_word, price_word, fill_word, rest_word, quote_word, IsPass, PriceFits, QuoteFits}
 use Rattle.lines.proofs.Plain.{Plain, no_hash, passes, passes_append, leading-past, keyword}
 use Rattle.lines.proofs.Decimals.{digits_of, plain-decimal, number-back}
@@ -36,15 +36,12 @@ unfolding same_word
 side-back Buy = refl
 side-back Sell = refl
 
-pub fill-back : (b : Bool) → entire_of (fill_word b) ≡ Ok (record { entire = b })
+pub form-back : (e k : Bool) (ws : List (List ℕ)) → take_form_lem (fill_word e ∷ rest_word k ∷ ws) ≡ Ok ((e, k), ws)
 unfolding same_word
-fill-back true = refl
-fill-back false = refl
-
-pub rest_back : (b : Bool) → keep_of (rest_word b) ≡ Ok (record { keep = b })
-unfolding same_word
-rest_back true = refl
-rest_back false = refl
+form-back true true ws = refl
+form-back true false ws = refl
+form-back false true ws = refl
+form-back false false ws = refl
 
 pub plain-pass : (s : Session) → IsPass s → Plain (pass_word s)
 plain-pass Closed p = absurd p

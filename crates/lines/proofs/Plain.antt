@@ -3,8 +3,8 @@ use Rattle.std.proofs.Common.{◌≡◌, ℕ, ◌+◌, ◌<◌, Bool, true, fals
 use Rattle.std.specs.List.{prefix_len, AllByRecursion}
 use Rattle.std.proofs.lemmas.List.{take_all, take_at, drop_at}
 use Rattle.std.proofs.lemmas.Bool.Decides.{nat_tests}
-use Rattle.script_calls.specs.Lines.{uncommented, words_of}
-use Rattle.script_calls.proofs.Cut.{word, words-first}
+use Rattle.script.specs.Lines.{uncommented, words_of}
+use Rattle.script.proofs.Cut.{word, words-first}
 use Rattle.lines.specs.Writing.{spaced}
 
 abbrev pub no_hash : ℕ → Bool

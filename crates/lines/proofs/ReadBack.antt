@@ -1,5 +1,5 @@
 -- Every command is read from the line that is written for it.
-use Rattle.std.proofs.Common.{◌≡◌, ℕ, ◌≤◌, Bool, List, [], ◌∷◌, map, Some, Ok, codes, decimal, Option, Result, sym, refl, ap, ◌∙◌, arith}
+use Rattle.std.proofs.Common.{◌≡◌, ℕ, ◌≤◌, List, [], ◌∷◌, map, Some, Ok, codes, decimal, Option, Result, sym, refl, ap, ◌∙◌, arith}
 use Rattle.std.specs.List.{AllByRecursion}
 use Rattle.rules.specs.declared.bid.Side.{Side}
 use Rattle.model.specs.declared.calls.Call.{Call}
@@ -7,18 +7,18 @@ use Rattle.model.specs.declared.calls.Call.TheVariants.{Start, Deposit, Withdraw
 use Rattle.model.specs.declared.words.Bid.{Bid}
 use Rattle.model.specs.declared.words.Listing.{Listing}
 use Rattle.model.specs.declared.words.Session.{Session}
-use Rattle.script_calls.specs.declared.commands.Command.{Command}
-use Rattle.script_calls.specs.declared.commands.Command.TheVariants as command
-use Rattle.script_calls.specs.declared.reading.LineFault.{LineFault}
-use Rattle.script_calls.specs.Bids.{session_of, side_of, price_of_lem, entire_of, keep_of, take_place_lem, take_terms_lem, take_form_lem, bid_of, cancel_of}
-use Rattle.script_calls.specs.Commands.{parsed, movement_of}
-use Rattle.script_calls.specs.Lines.{same_word}
-use Rattle.script_calls.specs.Listings.{take_quotes_lem, start_of}
-use Rattle.script_calls.specs.Reading.{and_then, number_of, taken, take_account_lem, last_or, most8, most32, most64}
+use Rattle.script.specs.declared.commands.Command.{Command}
+use Rattle.script.specs.declared.commands.Command.TheVariants as command
+use Rattle.script.specs.declared.reading.LineFault.{LineFault}
+use Rattle.script.specs.Bids.{session_of, side_of, price_of_lem, take_place_lem, take_terms_lem, bid_of, cancel_of}
+use Rattle.script.specs.Commands.{parsed, movement_of}
+use Rattle.script.specs.Lines.{same_word}
+use Rattle.script.specs.Listings.{take_quotes_lem, start_of}
+use Rattle.script.specs.Reading.{and_then, number_of, taken, take_account_lem, last_or, most8, most32, most64}
 use Rattle.lines.specs.Writing.{side_word, pass_word, price_word, fill_word, rest_word, quote_word, call_words, command_words, IsPass, PriceFits, CallFits, Fits, LinesAreReadBack}
 use Rattle.lines.proofs.Plain.{Plain, keyword, words_back}
 use Rattle.lines.proofs.Decimals.{plain-decimal, number-back}
-use Rattle.lines.proofs.Parts.{take_back, pass-back, side-back, fill-back, rest_back, price-back, quotes-back, plain-pass, plain-side, plain-fill, plain-rest, plain-price, plain-quotes}
+use Rattle.lines.proofs.Parts.{take_back, pass-back, side-back, form-back, price-back, quotes-back, plain-pass, plain-side, plain-fill, plain-rest, plain-price, plain-quotes}
 
 abbrev Words : Type 0
 Words = List (List ℕ)
@@ -60,11 +60,6 @@ terms-back : (s : Side) (p : Option ℕ) (n : ℕ) (ws : Words) → PriceFits p 
 terms-back s p n ws f i =
     then _ _ _ (take_back side_of (side_word s) (price_word p ∷ decimal n ∷ ws) s (side-back s))
     ∙ then _ _ _ (take_back price_of_lem (price_word p) (decimal n ∷ ws) p (price-back p f)) ∙ then _ _ _ (half_back n i ws)
-
-form-back : (e k : Bool) (ws : Words) → take_form_lem (fill_word e ∷ rest_word k ∷ ws) ≡ Ok ((e, k), ws)
-form-back e k ws =
-    then _ _ _ (take_back entire_of (fill_word e) (rest_word k ∷ ws) (record { entire = e }) (fill-back e))
-    ∙ then _ _ _ (take_back keep_of (rest_word k) ws (record { keep = k }) (rest_back k))
 
 -- ---- calls
 bid-back : (s : Session) (b : Bid) (room : ℕ) → IsPass s → b.holder ≤ most8 → b.ticker ≤ most8 → PriceFits b.price → b.lots ≤ most32 → room ≤ most64 →

@@ -8,11 +8,11 @@ use Rattle.model.specs.declared.calls.Call.TheVariants.{Start, Deposit, Withdraw
 use Rattle.model.specs.declared.words.Quote.{Quote}
 use Rattle.model.specs.declared.words.Session.{Session}
 use Rattle.model.specs.declared.words.Session.TheVariants.{Closed, PreTrading, Trading, PostTrading}
-use Rattle.script_calls.specs.Commands.{parsed}
-use Rattle.script_calls.specs.Lines.{uncommented, words_of}
-use Rattle.script_calls.specs.Reading.{most8, most32, most64}
-use Rattle.script_calls.specs.declared.commands.Command.{Command}
-use Rattle.script_calls.specs.declared.commands.Command.TheVariants as command
+use Rattle.script.specs.Commands.{parsed}
+use Rattle.script.specs.Lines.{uncommented, words_of}
+use Rattle.script.specs.Reading.{most8, most32, most64}
+use Rattle.script.specs.declared.commands.Command.{Command}
+use Rattle.script.specs.declared.commands.Command.TheVariants as command
 
 -- ---- words
 abbrev pub side_word : Side → List ℕ

@@ -3,12 +3,9 @@ use model::calls::{Answer, Call};
 use model::words::{Bid, Listing, Quote, Receipt, Session, Standing, Trade};
 use register::faults::Account;
 use rules::Side;
-use script_calls::reading::LineFault;
+use script::reading::LineFault;
 use std::test::Fail;
-use telling::answers::{
-    Entry, average_line, call_line, entry_line, error_line, listed_entry, session_line,
-    standing_line, trade_line,
-};
+use telling::answers::{AverageLine, CallLine, Entry, ErrorLine, SessionLine, listed_entry};
 
 #[test]
 fn calls_made(rt: HostRuntime) -> Result<(), Fail> {
@@ -81,7 +78,7 @@ fn calls_made(rt: HostRuntime) -> Result<(), Fail> {
         (Call::EndPostTrading, Answer::Done, "ok post-trading-ended"),
     ];
     for (call, answer, expected) in table {
-        let line = call_line(rt.alloc(), &call, answer)?;
+        let line = CallLine { call, answer }.to_string(rt.alloc())?;
         assert_eq!(rt; line.as_str(), expected);
     }
     Ok(())
@@ -98,7 +95,7 @@ fn records(rt: HostRuntime) -> Result<(), Fail> {
         price: 10_000_000,
         lots: 1_000_000,
     };
-    let line = trade_line(rt.alloc(), trade)?;
+    let line = trade.to_string(rt.alloc())?;
     assert_eq!(rt; line.as_str(), "trade 4 1 2 30 29 10000000 1000000");
     let bid = Standing {
         number: 12,
@@ -106,7 +103,7 @@ fn records(rt: HostRuntime) -> Result<(), Fail> {
         price: 101,
         lots: 5,
     };
-    let line = standing_line(rt.alloc(), bid)?;
+    let line = bid.to_string(rt.alloc())?;
     assert_eq!(rt; line.as_str(), "standing 12 15 101 5");
     Ok(())
 }
@@ -127,7 +124,7 @@ fn accounts(rt: HostRuntime) -> Result<(), Fail> {
         };
         match (listed_entry(3, 11, account), expected) {
             (Some(entry), Some(expected)) => {
-                let line = entry_line(rt.alloc(), entry)?;
+                let line = entry.to_string(rt.alloc())?;
                 assert_eq!(rt; line.as_str(), expected);
             }
             (None, None) => {}
@@ -144,16 +141,24 @@ fn accounts(rt: HostRuntime) -> Result<(), Fail> {
         asset: 4,
         account,
     };
-    let line = entry_line(rt.alloc(), entry)?;
+    let line = entry.to_string(rt.alloc())?;
     assert_eq!(rt; line.as_str(), "account 0 4 0 0 10000000000000000");
     Ok(())
 }
 
 #[test]
 fn averages_and_sessions(rt: HostRuntime) -> Result<(), Fail> {
-    let line = average_line(rt.alloc(), 4, Some(101))?;
+    let line = AverageLine {
+        ticker: 4,
+        average: Some(101),
+    }
+    .to_string(rt.alloc())?;
     assert_eq!(rt; line.as_str(), "average 4 101");
-    let line = average_line(rt.alloc(), 11, None)?;
+    let line = AverageLine {
+        ticker: 11,
+        average: None,
+    }
+    .to_string(rt.alloc())?;
     assert_eq!(rt; line.as_str(), "average 11 -");
     let sessions = [
         (Session::Closed, "session closed"),
@@ -162,7 +167,7 @@ fn averages_and_sessions(rt: HostRuntime) -> Result<(), Fail> {
         (Session::PostTrading, "session post-trading"),
     ];
     for (session, expected) in sessions {
-        let line = session_line(rt.alloc(), session)?;
+        let line = SessionLine(session).to_string(rt.alloc())?;
         assert_eq!(rt; line.as_str(), expected);
     }
     Ok(())
@@ -191,7 +196,11 @@ fn errors(rt: HostRuntime) -> Result<(), Fail> {
         ),
     ];
     for (number, fault, expected) in table {
-        let line = error_line(rt.alloc(), number, fault)?;
+        let line = ErrorLine {
+            line: number,
+            fault,
+        }
+        .to_string(rt.alloc())?;
         assert_eq!(rt; line.as_str(), expected);
     }
     Ok(())

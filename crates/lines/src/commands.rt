@@ -2,7 +2,7 @@
 use model::calls::Call;
 use model::words::{Bid, Listing, Quote, Session};
 use rules::Side;
-use script_calls::commands::{Command, parse};
+use script::commands::{Command, parse};
 
 #[test]
 fn nothing(rt: HostRuntime) {

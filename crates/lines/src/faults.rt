@@ -1,6 +1,6 @@
 // Lines that are no call: the first thing wrong is told, read from the left.
-use script_calls::commands::parse;
-use script_calls::reading::LineFault;
+use script::commands::parse;
+use script::reading::LineFault;
 use std::process::Abort;
 
 // That every one of some lines has the fault.

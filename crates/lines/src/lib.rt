@@ -4,6 +4,8 @@
 ghost use Rattle.lines.specs.Writing.{LinesAreReadBack};
 
 #[cfg(test)]
+mod accounts;
+#[cfg(test)]
 mod answers;
 #[cfg(test)]
 mod commands;
@@ -15,8 +17,6 @@ mod options;
 mod refusals;
 
 // Every command can be written in a line, with a space (32) behind each word, and the line is read as that command.
-pub fn lines_are_read_back() -> u8
+pub fn lines_are_read_back()
     ensures { LinesAreReadBack 32 }
-{
-    0
-}
+{}

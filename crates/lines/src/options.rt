@@ -1,5 +1,5 @@
 // The words of the program's command line.
-use script_calls::options::{OptionFault, Options, RegisterKind, RuleKind};
+use script::options::{OptionFault, Options, RegisterKind, RuleKind};
 use std::process::Abort;
 use std::test::Fail;
 

@@ -5,7 +5,7 @@ use register::faults::{RegisterCause, RegisterFault};
 use rules::RuleRefusal;
 use std::process::Abort;
 use std::test::Fail;
-use telling::answers::{call_line, fault_line};
+use telling::answers::CallLine;
 
 fn floor(refusal: FloorRefusal) -> Cause {
     Cause::Floor(refusal)
@@ -31,7 +31,7 @@ fn told(
             call: *call,
             ticker: *ticker,
         };
-        let line = fault_line(rt.alloc(), fault)?;
+        let line = fault.to_string(rt.alloc())?;
         assert_eq!(rt; line.as_str(), *expected);
     }
     Ok(())
@@ -198,11 +198,11 @@ fn refused_calls(rt: HostRuntime) -> Result<(), Fail> {
         call: CallKind::Open,
         ticker: 0,
     };
-    let line = call_line(
-        rt.alloc(),
-        &Call::Open { room: 1024 },
-        Answer::Refused(fault),
-    )?;
+    let line = CallLine {
+        call: Call::Open { room: 1024 },
+        answer: Answer::Refused(fault),
+    }
+    .to_string(rt.alloc())?;
     assert_eq!(rt;
         line.as_str(),
         "refused 3 open 0 floor: not in this session"

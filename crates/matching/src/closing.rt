@@ -55,7 +55,7 @@ pub fn void_books<R: Register>(register: &mut R, books: &mut [TickerBook], listi
     ensures book { R.Register.means register.new ≡ moved_all (all_freed listing.now (sheets_of books.old)) (R.Register.means register.old) }
     ensures sheets { sheets_of books.new ≡ (λ (t : ℕ). void_sheet (sheets_of books.old t)) }
 {
-    for i in 0..8 {
-        void_book(register, &mut books[i as usize], listing, 4 + i);
+    for (i, book) in books.iter_mut().enumerate() {
+        void_book(register, book, listing, 4 + i as u8);
     }
 }

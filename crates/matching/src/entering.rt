@@ -28,6 +28,8 @@ use register::slips::Slip;
 use rules::{Side, obligation};
 
 // What a bid will make of the queue it faces: whether it trades with it at all, what is left of it, and what its trades cost.
+// Kept as a flag beside numbers: what is left and what it costs are asked for whether it trades or not, and an Option would have each of
+// the four who ask give the same two numbers for none.
 #[derive(Clone, Copy)]
 pub struct Outlook {
     pub trades: bool,
@@ -97,7 +99,7 @@ impl Newcomer {
     }
 }
 
-// Puts a bid into its queue by the ranking of the session and side.
+// Puts a bid into its queue by the ranking of the session and side. Kept as a match: each ranking is a type of its own.
 fn put_ranked(queue: &mut Queue, session: Session, side: Side, bid: Standing)
     requires { length (entries queue.old) < 64 }
     ensures { entries queue.new ≡ insert_ranked (before session side) bid (entries queue.old) }

@@ -10,13 +10,8 @@ use rules::Side;
 pub fn quote(listing: &Listing, ticker: u8) -> Quote
     ensures { result ≡ quote_of listing.now ticker }
 {
-    match listing.quotes.get(ticker.saturating_sub(4) as usize) {
-        Some(quote) => *quote,
-        None => Quote {
-            currency: 0,
-            settlement: 0,
-        },
-    }
+    let line = listing.quotes.get(ticker.saturating_sub(4) as usize);
+    line.copied().unwrap_or_default()
 }
 
 // The settlement price of a ticker, where it has one.
@@ -24,7 +19,7 @@ pub fn settlement_price(listing: &Listing, ticker: u8) -> Option<u32>
     ensures { result ≡ settlement_of listing.now ticker }
 {
     let price = quote(listing, ticker).settlement;
-    if price == 0 { None } else { Some(price) }
+    (price != 0).then_some(price)
 }
 
 // What a bid on a ticker is paid with: a buy with the ticker's currency, a sell with the ticker itself.

@@ -9,7 +9,7 @@ ghost use Rattle.matching.specs.Exchanges.{exchange_by};
 ghost use Rattle.matching.specs.Dealing.{mine_of, deal_with, used_of, met_by, first_deal};
 ghost use Rattle.matching.specs.Meetings.{Payable, Settles, Ready, trade_of, book_after, queue_after, amount_after, Swept};
 
-use crate::newcomers::{Newcomer, opposite};
+use crate::newcomers::Newcomer;
 use crate::settling::settle;
 use model::words::{Standing, Trade};
 use queues::queue::Queue;
@@ -67,7 +67,7 @@ fn settle_with<R: Register>(
     ensures slip { slip.new ≡ mine_of newcomer.now (slip.old.amount - used_of newcomer.now maker.price lots) }
 {
     let mine = slip.cut_off(newcomer.used(maker.price, lots));
-    let facing = opposite(newcomer.bid.side);
+    let facing = newcomer.bid.side.opposite();
     let theirs = Slip::new(
         maker.holder,
         newcomer.asset_of(facing),
@@ -104,7 +104,8 @@ fn meet_first<R: Register>(
 }
 
 // Trades with the queue in its order, as long as the newcomer meets its first bid, and answers the count of the trades, which are
-// written to the front of the strip.
+// written to the front of the strip. Kept as parameters: a struct of the register, the slip and the newcomer would borrow all three for
+// one call, and its clauses would name each of them again.
 pub fn meet_queue<R: Register>(
     register: &mut R,
     queue: &mut Queue,
@@ -116,6 +117,7 @@ pub fn meet_queue<R: Register>(
     requires room { length (entries queue.old) ≤ length strip.old }
     ensures { Swept newcomer.now (met_by newcomer.now newcomer.now.bid.lots (entries queue.old)) (entries queue.new) (R.Register.means register.old) (R.Register.means register.new) strip.old strip.new slip.new result }
 {
+    // Kept as a loop with a count: the queue says when it ends, and a loop over the strip would have an end that never comes.
     let mut count = 0;
     let mut left = newcomer.bid.lots;
     while let Some(trade) = meet_first(register, queue, slip, newcomer, left) {

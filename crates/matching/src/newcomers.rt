@@ -1,28 +1,19 @@
 // A bid that meets the queue of the other side.
 ghost use Rattle.std.specs.Prelude.{◌≡◌};
 ghost use Rattle.model.specs.Matching.{crosses};
-ghost use Rattle.model.specs.Market.{other};
 ghost use Rattle.matching.specs.Dealing.{asset_by, mine_of, meets, deal_with, used_of};
 
 use model::words::{Bid, Standing, Trade};
 use rules::Side;
 
-// A bid with the number it would have, its limit, which is the price that it trades and blocks at, and its ticker's currency.
+// A bid with the number it would have, its limit, which is the price that it trades and blocks at, and its ticker's currency. Kept apart
+// from the session, which is the desk's: what a newcomer makes of a queue does not ask for it.
 #[derive(Clone, Copy)]
 pub struct Newcomer {
     pub number: u32,
     pub bid: Bid,
     pub limit: Option<u32>,
     pub currency: u8,
-}
-
-pub fn opposite(side: Side) -> Side
-    ensures { result ≡ other side }
-{
-    match side {
-        Side::Buy => Side::Sell,
-        Side::Sell => Side::Buy,
-    }
 }
 
 // Whether a bid of this side and limit trades at a standing price; without a limit it trades at every price.

@@ -1,6 +1,7 @@
 -- The laws of the average. This file alone opens how it is rounded.
-use Rattle.model.specs.Words.{ℕ, eqb, List, [], AllByRecursion, Some, None}
-use Rattle.std.proofs.Common.{◌+◌, ◌*◌, ◌/◌, ◌≤◌, ◌<◌, ◌≡◌, ◌≢◌, ◌∷◌, ◌⊎◌, sym, inl, inr, mul-le-mul_right, mod-lt, le_of_mul-le-mul_right, arith}
+use Rattle.std.specs.Prelude.{SomeIff}
+use Rattle.model.specs.Words.{ℕ, eqb, List, [], AllByRecursion, Option, Some, None}
+use Rattle.std.proofs.Common.{◌+◌, ◌*◌, ◌/◌, ◌≤◌, ◌<◌, ◌≡◌, ◌∷◌, ◌⊎◌, refl, sym, ap, ◌∙◌, inl, inr, mul-le-mul_right, mod-lt, le_of_mul-le-mul_right, arith}
 use native.Mathlib.Nat.{mod-add-div}
 use Rattle.std.proofs.lemmas.Bool.{cases_lt, cond-false, ne_eqb}
 use Rattle.model.specs.Market.{Trade}
@@ -8,9 +9,10 @@ use Rattle.model.specs.Average.{average, average_price_lem, cost_of, lots_of}
 use Rattle.model.specs.AverageLaws.{AverageLaws, RoundedDown}
 
 -- ---- how it is worked out
-pub average-quotient : (worth lots : ℕ) → lots ≢ 0 → Some (worth / lots) ≡ average worth lots
+pub average-quotient : (worth lots : ℕ) (r : Option ℕ) → SomeIff r (0 < lots) (worth / lots) → r ≡ average worth lots
 unfolding average_price_lem
-average-quotient worth lots h = sym (cond-false (eqb lots 0) None (Some (worth / lots)) (ne_eqb lots 0 h))
+average-quotient worth lots None e = let z : lots ≡ 0 = omega (arith, e) in rw z refl
+average-quotient worth lots (Some x) e = ap (λ (y : ℕ). Some y) e.1 ∙ sym (cond-false (eqb lots 0) None (Some (worth / lots)) (ne_eqb lots 0 (omega (arith, e.0))))
 
 -- ---- the rounding
 below : (worth lots : ℕ) → 1 ≤ lots → average_price_lem worth lots * lots ≤ worth

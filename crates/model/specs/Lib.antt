@@ -1,6 +1,7 @@
 pub mod Words
 pub mod Market
 pub mod Numbers
+pub mod Texts
 pub mod Queues
 pub mod Average
 pub mod Matching

@@ -4,6 +4,7 @@ use Rattle.model.specs.Words.{ℕ, Bool, true, false, leb, List, []}
 pub use Rattle.register.specs.declared.faults.RegisterFault.{RegisterFault}
 pub use Rattle.rules.specs.declared.bid.Side.{Side}
 pub use Rattle.rules.specs.declared.bid.Side.TheVariants.{Buy, Sell}
+pub use Rattle.rules.specs.Bids.{other}
 pub use Rattle.rules.specs.declared.bid.Question.{Question}
 pub use Rattle.rules.specs.declared.rule.RuleRefusal.{RuleRefusal}
 pub use Rattle.model.specs.declared.words.Session.{Session}
@@ -27,10 +28,6 @@ pub use Rattle.model.specs.declared.calls.Answer.{Answer}
 pub use Rattle.model.specs.declared.calls.Answer.TheVariants.{Done, Placed, Cancelled, Opened, Refused}
 
 -- ---- sides
-abbrev pub other : Side → Side
-other Buy = Sell
-other Sell = Buy
-
 abbrev pub same_side : Side → Side → Bool
 same_side Buy Buy = true
 same_side Buy Sell = false

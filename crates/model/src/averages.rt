@@ -6,5 +6,5 @@ ghost use Rattle.model.specs.Average.{average};
 pub fn average_price(worth: u64, lots: u64) -> Option<u64>
     ensures { result ≡ average worth lots }
 {
-    if lots == 0 { None } else { Some(worth / lots) }
+    worth.checked_div(lots)
 }

@@ -37,7 +37,8 @@ pub enum Call {
     EndPostTrading,
 }
 
-// A bid is answered by its receipt, a cancellation by the lots that it took out, an opening by the count of its trades.
+// A bid is answered by its receipt, a cancellation by the lots that it took out, an opening by the count of its trades. Kept as one enum,
+// though `Refused` makes it like a Result: logs and tallies tell its five kinds apart side by side, and a Result would nest four of them.
 #[derive(Clone, Copy, PartialEq, Eq, Debug)]
 pub enum Answer {
     Done,

@@ -2,7 +2,7 @@
 use Rattle.std.proofs.Common.{◌≡◌, ℕ, zero, suc, ◌+◌, ◌-◌, ◌<◌, ◌≤◌, true, false, eqb, ◌≢◌, ◌⊎◌, List, [], ◌∷◌, map, length, get_or, set, sym, refl, ap, ◌∙◌, inl, inr, add-one, arith}
 use mathlib.Core.Path.{fun_ext}
 use Rattle.std.proofs.lemmas.List.{get_or-map, get_or-set_same, get_or-set_other, map-set, length-map}
-use Rattle.std.proofs.lemmas.Bool.{cond-true, cond-false, cases_Bool, eqb-true}
+use Rattle.std.proofs.lemmas.Bool.{cond-true, cond-false, cond_both, cases_Bool, eqb-true}
 use Rattle.std.proofs.lemmas.Bool.Decides.{nat_tests}
 use Rattle.model.specs.Market.{ticker_known}
 use Rattle.model.specs.World.{Sheet, blank_sheet}
@@ -94,3 +94,13 @@ sheets-mapped f books books0 blank e = fun_ext (λ t. by t (cases_Bool (ticker_k
     by : (t : ℕ) → (ticker_known t ≡ true) ⊎ (ticker_known t ≡ false) → sheets_of books t ≡ f (sheets_of books0 t)
     by t (inl k) = cond-true _ _ _ k ∙ ap (λ (l : List Sheet). get_or l (t - 4) blank_sheet) e ∙ mapped_at f blank (map sheet_of books0) (t - 4) ∙ ap f (sym (cond-true _ _ _ k))
     by t (inr k) = cond-false _ _ _ k ∙ sym (ap f (cond-false _ _ _ k) ∙ blank)
+
+-- where every book is blank, every sheet is
+blank_at : (books : List TickerBook) → ((i : ℕ) (d : TickerBook) → i < length books → sheet_of (get_or books i d) ≡ blank_sheet) → (i : ℕ) → get_or (map sheet_of books) i blank_sheet ≡ blank_sheet
+blank_at [] each i = refl
+blank_at (x ∷ xs) each zero = each 0 x (omega arith)
+blank_at (x ∷ xs) each (suc i) = blank_at xs (λ j d h. each (suc j) d (omega arith)) i
+
+pub blank-filed : (books : List TickerBook) → ((i : ℕ) (d : TickerBook) → i < length books → sheet_of (get_or books i d) ≡ blank_sheet) → sheets_of books ≡ (λ (t : ℕ). blank_sheet)
+blank-filed books each =
+    fun_ext (λ t. cond_both (ticker_known t) (get_or (map sheet_of books) (t - 4) blank_sheet) blank_sheet (λ s. s ≡ blank_sheet) (λ _. blank_at books each (t - 4)) (λ _. refl))

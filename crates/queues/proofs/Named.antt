@@ -1,17 +1,12 @@
 -- The bid of a holder and number: where it is found, and what is left without it. Assumes nothing.
-use Rattle.std.proofs.Common.{◌≡◌, ℕ, suc, ◌<◌, ◌≤◌, Bool, true, false, cond, ltb, List, [], ◌∷◌, length, get_or, Some, None, Option, refl, ap, ◌∙◌, arith}
+use Rattle.std.proofs.Common.{◌≡◌, ℕ, suc, ◌<◌, ◌≤◌, Bool, true, false, cond, ltb, List, [], ◌∷◌, length, get_or, slice_get, Some, None, Option, refl, ap, ◌∙◌, arith}
 use Rattle.std.specs.List.{remove}
 use Rattle.std.proofs.lemmas.Bool.Decides.{nat_tests}
+use Rattle.std.proofs.lemmas.Option.{slice_get-get_or}
 use Rattle.model.specs.declared.words.Standing.{Standing}
 use Rattle.model.specs.Queues.{named}
 use Rattle.ranking.specs.Ranks.{first_place}
-use Rattle.rules.specs.declared.bid.Side.TheVariants.{Sell}
-use Rattle.queues.specs.Entries.{first_of, place_named_lem, entry_named, less_named}
-use Rattle.queues.specs.Sheets.{or_sell, unless_buy}
-
-pub first_taken : (xs : List Standing) (r : Standing) → 0 < length xs → ((d : Standing) → r ≡ get_or xs 0 d) → Some r ≡ first_of xs
-first_taken [] r h e = absurd (omega arith)
-first_taken (x ∷ xs) r h e = ap Some (e x)
+use Rattle.queues.specs.Entries.{place_named_lem, entry_named, less_named}
 
 module _ (h n : ℕ) where
   entry_at : (xs : List Standing) (d : Standing) → first_place (named h n) xs < length xs → Some (get_or xs (first_place (named h n) xs) d) ≡ entry_named h n xs
@@ -50,28 +45,14 @@ module _ (h n : ℕ) where
   pub found_within : (xs : List Standing) (i : ℕ) → Some i ≡ place_named_lem h n xs → i < length xs
   found_within xs i e = let p = place-some xs i e in omega arith
 
-  pub taken-named : (xs : List Standing) (i : ℕ) (r : Standing) → Some i ≡ place_named_lem h n xs → ((d : Standing) → r ≡ get_or xs i d) → Some r ≡ entry_named h n xs
-  taken-named xs i r e g =
+  pub got-named : (xs : List Standing) (i : ℕ) → Some i ≡ place_named_lem h n xs → slice_get xs i ≡ entry_named h n xs
+  got-named xs i e =
       let p = place-some xs i e in
-      ap Some (g r ∙ ap (λ (k : ℕ). get_or xs k r) p.0) ∙ entry_at xs r p.1
+      let d : Standing = record { number = 0; holder = 0; price = 0; lots = 0 } in
+      slice_get-get_or xs i d (found_within xs i e) ∙ ap (λ (k : ℕ). Some (get_or xs k d)) p.0 ∙ entry_at xs d p.1
 
   pub left-named : (xs : List Standing) (i : ℕ) → Some i ≡ place_named_lem h n xs → remove xs i ≡ less_named h n xs
   left-named xs i e = ap (remove xs) (place-some xs i e).0 ∙ less-at xs
 
   pub none-taken : (xs : List Standing) → None ≡ place_named_lem h n xs → (None ≡ entry_named h n xs) × (xs ≡ less_named h n xs)
   none-taken xs e = none_named xs (place_none xs e)
-
--- where no buy is so named, a sell may be
-pub sell-named : (o p : Option Standing) (y : Standing) → None ≡ o → Some y ≡ p → Some (Sell, y) ≡ or_sell o p
-sell-named None (Some z) y e f = let k : y ≡ z = cc in ap (λ (x : Standing). Some (Sell, x)) k
-sell-named None None y e f = absurd (let z : ◌≡◌ {A = ℕ} 0 1 = cc in omega arith)
-sell-named (Some x) p y e f = absurd (let z : ◌≡◌ {A = ℕ} 0 1 = cc in omega arith)
-
-pub neither-named : (o p : Option Standing) → None ≡ o → None ≡ p → None ≡ or_sell o p
-neither-named None None e f = refl
-neither-named None (Some y) e f = absurd (let z : ◌≡◌ {A = ℕ} 0 1 = cc in omega arith)
-neither-named (Some x) p e f = absurd (let z : ◌≡◌ {A = ℕ} 0 1 = cc in omega arith)
-
-pub sells-less : (o : Option Standing) (sells less : List Standing) → None ≡ o → less ≡ unless_buy o sells less
-sells-less None sells less e = refl
-sells-less (Some x) sells less e = absurd (let z : ◌≡◌ {A = ℕ} 0 1 = cc in omega arith)

@@ -1,2 +1,4 @@
 pub mod Entries
 pub mod Sheets
+pub mod Prices
+pub mod Texts

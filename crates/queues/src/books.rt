@@ -13,7 +13,7 @@ use model::words::Standing;
 use rules::Side;
 
 // The two queues of a ticker, and of its trades in opening and trading the sum of price × lots and the lots.
-#[derive(Clone, Copy)]
+#[derive(Drop)]
 pub struct TickerBook {
     pub buys: Queue,
     pub sells: Queue,
@@ -48,10 +48,7 @@ impl TickerBook {
     pub fn facing(&self, side: Side) -> &Queue
         ensures { entries result.now ≡ queue_of (sheet_of self.now) (other side) }
     {
-        match side {
-            Side::Buy => &self.sells,
-            Side::Sell => &self.buys,
-        }
+        self.own(side.opposite())
     }
 
     // The average price of its trades in opening and trading, where there were any.
@@ -69,10 +66,8 @@ impl TickerBook {
         if let Some(bid) = self.buys.take_named(holder, number) {
             return Some((Side::Buy, bid));
         }
-        match self.sells.take_named(holder, number) {
-            Some(bid) => Some((Side::Sell, bid)),
-            None => None,
-        }
+        let bid = self.sells.take_named(holder, number)?;
+        Some((Side::Sell, bid))
     }
 
     // No trade counts for the average any more.
@@ -86,19 +81,13 @@ impl TickerBook {
     pub fn best_price(&self, side: Side) -> Option<u32>
         ensures { result ≡ best_price_lem (queue_of (sheet_of self.now) side) }
     {
-        match side {
-            Side::Buy => self.buys.best_price(),
-            Side::Sell => self.sells.best_price(),
-        }
+        self.own(side).best_price()
     }
 
     // Whether the holder has a bid standing on the other side.
     pub fn has_opposite(&self, side: Side, holder: u8) -> bool
         ensures { result ≡ has_holder_lem holder (queue_of (sheet_of self.now) (other side)) }
     {
-        match side {
-            Side::Buy => self.sells.has_holder(holder),
-            Side::Sell => self.buys.has_holder(holder),
-        }
+        self.facing(side).has_holder(holder)
     }
 }

@@ -4,3 +4,5 @@
 pub mod books;
 pub mod queue;
 pub mod rankings;
+#[cfg(test)]
+mod tests;

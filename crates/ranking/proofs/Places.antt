@@ -1,8 +1,9 @@
 -- The first place that passes a test, step by step and as a whole, and insertion as insertion at a place. Assumes nothing.
-use Rattle.std.proofs.Common.{◌≡◌, ℕ, zero, suc, ◌+◌, ◌<◌, ◌≤◌, Bool, true, false, cond, ltb, List, [], ◌∷◌, ◌++◌, length, get_or, take, drop, Some, None, sym, refl, ap, ◌∙◌, arith}
-use Rattle.std.specs.List.{insert, AllByRecursion}
+use Rattle.std.proofs.Common.{◌≡◌, ℕ, zero, suc, ◌+◌, ◌<◌, ◌≤◌, Bool, true, false, cond, ltb, List, [], ◌∷◌, ◌++◌, length, get_or, take, drop, Some, None, Option, unwrap_or, sym, refl, ap, ◌∙◌, ⊎_elim, arith}
+use Rattle.std.specs.List.{insert, position, position_or_len, AllByRecursion}
 use Rattle.std.proofs.lemmas.List.{at_drop_more, at_drop_all}
-use Rattle.std.proofs.lemmas.Bool.{cond-true, cond-false, cond_both, lt-ltb, le-ltb}
+use Rattle.std.proofs.lemmas.List.Recursion.{is_position_or_len}
+use Rattle.std.proofs.lemmas.Bool.{cond-true, cond-false, cond_both, cases_lt, lt-ltb, le-ltb}
 use Rattle.ranking.specs.Ranks.{first_place, place_of, insert_ranked}
 
 module _ {E : Type 0} (test : E → Bool) where
@@ -45,15 +46,18 @@ module _ {E : Type 0} (test : E → Bool) where
   first-none (x ∷ xs) =
       cond_both (test x) 0 (suc (first_place test xs)) (λ n. suc (length xs) ≤ n → AllByRecursion (λ y. test y ≡ false) (x ∷ xs)) (λ _ h. absurd (omega arith)) (λ f h. (f, first-none xs (omega arith)))
 
-  -- where a search that has passed i places stops
-  pub found_here : (xs : List E) (i : ℕ) (d : E) → i < length xs → i + first_place test (drop i xs) ≡ first_place test xs → test (get_or xs i d) ≡ true → Some i ≡ cond (ltb (first_place test xs) (length xs)) (Some (first_place test xs)) None
-  found_here xs i d h e t =
-      let z = first-yes xs i d h t in
-      let p : i ≡ first_place test xs = omega arith in
-      ap Some p ∙ sym (cond-true _ _ _ (lt-ltb (first_place test xs) (length xs) (omega arith)))
+  -- what the library's search finds
+  first-position : (xs : List E) → first_place test xs ≡ position_or_len test xs
+  first-position xs = is_position_or_len (first_place test) test refl (λ y ys. ap (cond (test y) 0) (omega arith)) xs
 
-  pub found_nowhere : (xs : List E) (i : ℕ) → length xs ≤ i → i + first_place test (drop i xs) ≡ first_place test xs → None ≡ cond (ltb (first_place test xs) (length xs)) (Some (first_place test xs)) None
-  found_nowhere xs i h e = let z = first-end xs i h in sym (cond-false _ _ _ (le-ltb (first_place test xs) (length xs) (omega arith)))
+  pub position-first : (xs : List E) → position test xs ≡ cond (ltb (first_place test xs) (length xs)) (Some (first_place test xs)) None
+  position-first xs = ap (λ n. cond (ltb n (length xs)) (Some n) None) (sym (first-position xs))
+
+  pub position-or-end : (xs : List E) → unwrap_or (position test xs) (length xs) ≡ first_place test xs
+  position-or-end xs =
+      ap (λ (o : Option ℕ). unwrap_or o (length xs)) (position-first xs) ∙
+      (⊎_elim (λ l. ap (λ (o : Option ℕ). unwrap_or o (length xs)) (cond-true _ (Some (first_place test xs)) None (lt-ltb _ _ l)))
+      (λ g. ap (λ (o : Option ℕ). unwrap_or o (length xs)) (cond-false _ (Some (first_place test xs)) None (le-ltb _ _ g)) ∙ omega (arith, first-le xs)) (cases_lt (first_place test xs) (length xs)))
 
 module _ {E : Type 0} (before : E → E → Bool) (e : E) where
   pub inserted-at-place : (xs : List E) → insert xs (place_of before e xs) e ≡ insert_ranked before e xs

@@ -2,7 +2,6 @@
 
 ghost use Rattle.std.specs.Prelude.{◌≡◌, Bool, true, false};
 
-mod gaps;
 mod lists;
 #[cfg(test)]
 mod tests;

@@ -1,5 +1,8 @@
-ghost use Rattle.std.specs.Prelude.{◌≡◌};
-ghost use Rattle.register.specs.Faults.{cause_number};
+ghost use Rattle.std.specs.Prelude.{◌≡◌, Some};
+ghost use Rattle.register.specs.Faults.{cause_number, cause_text, fault_text};
+
+use std::error::Error;
+use std::fmt;
 
 // One account as it is read: what is free, what is blocked, and the cap on what may be blocked.
 #[derive(Clone, Copy, PartialEq, Eq, Debug)]
@@ -9,30 +12,38 @@ pub struct Account {
     pub limit: u64,
 }
 
-// Why a register refuses.
+// Why a register refuses, with the number by which a terminal knows the refusal.
 #[derive(Clone, Copy, PartialEq, Eq, Debug)]
 pub enum RegisterCause {
-    NoAccount,
-    BadAmount,
-    OverTotal,
-    TooLittleFree,
-    OverCap,
-    TooLittleBlocked,
+    NoAccount = 31,
+    BadAmount = 32,
+    OverTotal = 33,
+    TooLittleFree = 34,
+    OverCap = 35,
+    TooLittleBlocked = 36,
 }
 
 impl RegisterCause {
-    // The number by which a terminal knows the refusal.
     pub fn number(self) -> u8
         ensures { result ≡ cause_number self }
     {
-        match self {
-            RegisterCause::NoAccount => 31,
-            RegisterCause::BadAmount => 32,
-            RegisterCause::OverTotal => 33,
-            RegisterCause::TooLittleFree => 34,
-            RegisterCause::OverCap => 35,
-            RegisterCause::TooLittleBlocked => 36,
-        }
+        self as u8
+    }
+}
+
+impl fmt::Display for RegisterCause {
+    ghost output = { λ cause. Some (cause_text cause) };
+
+    fn fmt<W: fmt::Write>(&self, f: &mut fmt::Formatter<W>) -> fmt::Result {
+        f.write_str(match self {
+            RegisterCause::NoAccount => "no such holder or asset",
+            RegisterCause::BadAmount => "the amount is 0 or more than 10000000000000000",
+            RegisterCause::OverTotal =>
+                "all holders together would have more than 10000000000000000",
+            RegisterCause::TooLittleFree => "less than that is free",
+            RegisterCause::OverCap => "more than the cap would be blocked",
+            RegisterCause::TooLittleBlocked => "less than that is blocked",
+        })
     }
 }
 
@@ -58,3 +69,19 @@ impl RegisterFault {
         }
     }
 }
+
+impl fmt::Display for RegisterFault {
+    ghost output = { λ fault. Some (fault_text fault) };
+
+    fn fmt<W: fmt::Write>(&self, f: &mut fmt::Formatter<W>) -> fmt::Result {
+        let RegisterFault {
+            cause,
+            holder,
+            asset,
+            tag,
+        } = self;
+        write!(f, "register {holder} {asset} {tag}: {cause}")
+    }
+}
+
+impl Error for RegisterFault {}

@@ -5,9 +5,14 @@ ghost use Rattle.register.specs.Moves.{Deposit, Withdraw, Block, Release, Pay, r
 use crate::faults::{Account, RegisterFault};
 use crate::slips::Slip;
 
+// All holders together never have more of an asset, and no cap is higher.
+pub const MOST: u64 = 10_000_000_000_000_000;
+
 // A register keeps, for each of 16 holders and 12 assets, what is free and what is blocked. `means` says
 // what it holds. Each call answers as `refusal` decides and leaves what `after_move` says, so that a refused
 // call leaves everything as it was.
+// Kept as it is: holder, asset and amount stand apart here as in the definitions. A struct for them would be made at every call and
+// taken apart in every clause.
 pub trait Register {
     ghost means: { Self → Book };
 

@@ -78,19 +78,11 @@ impl Slip {
     }
 
     // Two slips that add up to this one: the first for `amount`, or for the whole where there is less.
-    pub fn cut(self, amount: u64) -> (Slip, Slip)
+    pub fn cut(mut self, amount: u64) -> (Slip, Slip)
         ensures first { result.0 ≡ record { holder = self.holder; asset = self.asset; amount = min amount self.amount } }
         ensures rest { result.1 ≡ record { holder = self.holder; asset = self.asset; amount = self.amount - amount } }
     {
-        let Slip {
-            holder,
-            asset,
-            amount: whole,
-        } = self;
-        let part = amount.min(whole);
-        (
-            Slip::new(holder, asset, part),
-            Slip::new(holder, asset, whole - part),
-        )
+        let part = self.cut_off(amount);
+        (part, self)
     }
 }

@@ -38,13 +38,11 @@ pub fn deposit_and_read<R: Register>(
 }
 
 // The laws of the movements, over every book: they are what every register and every layer keeps.
-pub fn movement_laws() -> u8
+pub fn movement_laws()
     ensures refused { RefusedChangesNothing }
     ensures deposits { DepositsAdd }
     ensures withdrawals { WithdrawalsTake }
     ensures kept { TotalsKept }
     ensures shows { ReadingShows }
     ensures bounded { TotalsAreBounded }
-{
-    0
-}
+{}

@@ -1,8 +1,8 @@
 -- What all entries of a list have of an asset is what all holders have of it.
-use Rattle.std.proofs.Common.{◌≡◌, ℕ, ◌+◌, ◌<◌, true, false, cond, eqb, List, [], ◌∷◌, length, get_or, take, sum_by, sym, refl, ap, subst, inl, inr, arith}
+use Rattle.std.proofs.Common.{◌≡◌, ℕ, ◌+◌, ◌<◌, Bool, true, false, cond, eqb, List, [], ◌∷◌, filter, sum_by, sym, refl, ap, subst, inl, inr, arith}
 use Rattle.std.specs.List.{AllByRecursion}
-use Rattle.std.proofs.lemmas.List.Sums.{sum_by-cons, sum_by_more}
-use Rattle.std.proofs.lemmas.Bool.{cond-true, cond-false, cases_eq, eq-eqb, ne_eqb}
+use Rattle.std.proofs.lemmas.List.Sums.{sum_by-cons}
+use Rattle.std.proofs.lemmas.Bool.{cond-true, cond-false, cond_both, cases_eq, eq-eqb, ne_eqb}
 use Rattle.std.proofs.lemmas.Bool.Decides.{nat_tests}
 use Rattle.ranking.specs.Ranks.{first_entry}
 use Rattle.ranking.proofs.Lookups.{first_entry-none}
@@ -15,6 +15,13 @@ use Rattle.registers.specs.Tables.{nothing}
 use Rattle.registers.specs.Lists.{is_of, no_entry, balance_in, list_book, is_known_lem, TotalsBounded}
 use Rattle.registers.proofs.Written.{total-written, total-unwritten}
 use Rattle.registers.proofs.Listed.{Apart, Writes, of_entry, own, absent, book-writes}
+
+-- what an entry has, free and blocked
+abbrev pub whole : Entry → ℕ
+whole x = x.balance.free + x.balance.blocked
+
+abbrev pub of_asset : ℕ → Entry → Bool
+of_asset a x = eqb x.asset a
 
 -- what an entry has of an asset
 abbrev pub held_in : ℕ → Entry → ℕ
@@ -50,17 +57,13 @@ held-total a (x ∷ xs) u k =
           omega arith
     ]
 
--- what the entries up to a place have of an asset, with the next one
-module _ (xs : List Entry) (a i n : ℕ) (l : i < length xs) (so : n ≡ sum_by (held_in a) (take i xs)) where
-  pub held-here : (get_or xs i no_entry).asset ≡ a → n + ((get_or xs i no_entry).balance.free + (get_or xs i no_entry).balance.blocked) ≡ sum_by (held_in a) (take (i + 1) xs)
-  held-here e =
-      let here : held_in a (get_or xs i no_entry) ≡ (get_or xs i no_entry).balance.free + (get_or xs i no_entry).balance.blocked = cond-true _ _ _ (eq-eqb (get_or xs i no_entry).asset a e) in
-      omega (arith, sum_by_more (held_in a) xs i no_entry l)
-
-  pub held-other : ((get_or xs i no_entry).asset ≡ a → ⊥) → n ≡ sum_by (held_in a) (take (i + 1) xs)
-  held-other ne =
-      let here : held_in a (get_or xs i no_entry) ≡ 0 = cond-false _ _ _ (ne_eqb (get_or xs i no_entry).asset a ne) in
-      omega (arith, sum_by_more (held_in a) xs i no_entry l)
+-- the entries of an asset have what all entries have of it
+pub held-filtered : (a : ℕ) (xs : List Entry) → sum_by whole (filter (of_asset a) xs) ≡ sum_by (held_in a) xs
+held-filtered a [] = refl
+held-filtered a (x ∷ xs) =
+    cond_both (of_asset a x) (x ∷ filter (of_asset a) xs) (filter (of_asset a) xs) (λ l. sum_by whole l ≡ sum_by (held_in a) (x ∷ xs))
+    (λ t. omega (arith, held-filtered a xs, sum_by-cons whole x (filter (of_asset a) xs), sum_by-cons (held_in a) x xs, cond-true _ (whole x) 0 t))
+    (λ f. omega (arith, held-filtered a xs, sum_by-cons (held_in a) x xs, cond-false _ (whole x) 0 f))
 
 pub empty-bounded : TotalsBounded []
 empty-bounded a l = omega (arith, sum_to-none 16 (λ h. 0 + 0) (λ i m. refl))

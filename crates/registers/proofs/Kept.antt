@@ -1,8 +1,8 @@
 -- What a list register keeps of its list through every change, and why the list never wants for room.
-use Rattle.std.proofs.Common.{◌≡◌, ℕ, suc, ◌+◌, ◌*◌, ◌<◌, ◌≤◌, Bool, true, false, List, [], ◌∷◌, length, get_or, take, set, Some, None, sum_by, sym, refl, ap, ◌∙◌, subst, arith, length-take-le, get_or-take}
-use lib.Seq.{take-set-lt}
-use Rattle.std.specs.List.{remove, AllByRecursion, list_all}
-use Rattle.std.proofs.lemmas.List.Sums.{sum_by-take-le}
+use Rattle.std.proofs.Common.{◌≡◌, ℕ, suc, ◌+◌, ◌*◌, ◌^◌, ◌<◌, ◌≤◌, Bool, true, false, List, [], ◌∷◌, length, get_or, filter, set, Some, None, sum_by, sym, refl, ap, ◌∙◌, subst, arith, length-set}
+use Rattle.std.specs.List.{remove, refill, AllByRecursion, list_all}
+use Rattle.arrayvec.proofs.ArrayVecLemmas.{items-with_items}
+use Rattle.std.proofs.lemmas.List.Sums.{get_or-le-sum_by}
 use Rattle.std.proofs.ByRecursion.{All-weaker, All-from_get_or, All-set}
 use Rattle.std.proofs.lemmas.Bool.{lt-ltb, and_parts, and_from}
 use Rattle.std.proofs.lemmas.Bool.Decides.{nat_tests}
@@ -15,8 +15,8 @@ use Rattle.registers.specs.declared.entries.Entry.{Entry}
 use Rattle.registers.specs.declared.list.List.{List as Accounts}
 use Rattle.registers.specs.Lists.{account_before, no_entry, balance_in, list_book, is_known_lem, is_filled, TotalsBounded}
 use Rattle.registers.proofs.Written.{bounded-written}
-use Rattle.registers.proofs.Listed.{Apart, Writes, of_entry, tied-before, book-writes, writes-inserted, writes-set, writes-removed, empty-balance, read_found}
-use Rattle.registers.proofs.Holdings.{held_in, held-total, held-here}
+use Rattle.registers.proofs.Listed.{Apart, Writes, tied-before, book-writes, writes-inserted, writes-set, writes-removed, empty-balance}
+use Rattle.registers.proofs.Holdings.{whole, of_asset, held_in, held-total, held-filtered, empty-bounded}
 
 -- ranked entries of different accounts are no more than there are accounts
 abbrev key : Entry → ℕ
@@ -75,10 +75,18 @@ account-laws = record {
   negative = λ a b c s t. grind (arith, nat_tests);
 }
 
--- so far, with the next entry, an asset's sum is within the most
-pub held-within : (xs : List Entry) (a i n : ℕ) → Sound xs → a < 12 → i < length xs → n ≡ sum_by (held_in a) (take i xs) → (get_or xs i no_entry).asset ≡ a →
-    n + ((get_or xs i no_entry).balance.free + (get_or xs i no_entry).balance.blocked) ≤ most_amount
-held-within xs a i n s aa l so e = omega (arith, held-here xs a i n l so e, sum_by-take-le (held_in a) xs (i + 1), sound-total xs s a, s.bounded a aa)
+-- what is summed for an asset
+module _ (xs : List Entry) (a : ℕ) (s : Sound xs) where
+  pub total-filtered : total (list_book xs) a ≡ sum_by whole (filter (of_asset a) xs)
+  total-filtered = sound-total xs s a ∙ sym (held-filtered a xs)
+
+  pub filtered-within : a < 12 → sum_by whole (filter (of_asset a) xs) < 2 ^ 64
+  filtered-within aa = omega (arith, total-filtered, s.bounded a aa)
+
+  pub filtered-each : a < 12 → (k : ℕ) (x : Entry) → k < length (filter (of_asset a) xs) → x ≡ get_or (filter (of_asset a) xs) k x → whole x < 2 ^ 64
+  filtered-each aa k x l at =
+      let w : whole (get_or (filter (of_asset a) xs) k x) ≤ sum_by whole (filter (of_asset a) xs) = get_or-le-sum_by whole (filter (of_asset a) xs) k x l in
+      omega (arith, w, ap whole at, filtered-within aa)
 
 -- the account of e is written, and its asset's total stays within the most
 module _ (xs : List Entry) (e : Entry) (s : Sound xs) (hh : e.holder < 16) (aa : e.asset < 12)
@@ -134,22 +142,21 @@ sound-fits xs s =
     let p = strictly-ranked account_before xs (ranked-from-test account_before xs s.ranked) (sound-apart xs s) in
     omega (arith, keys-fit 0 xs (omega arith) p (all-from-pass is_known_lem xs s.known) (All-from_get_or (λ x. 0 ≤ key x) xs no_entry (λ i l. omega arith)))
 
--- in the first n of some slots
-module _ (slots : List Entry) (n : ℕ) (e : Entry) (i : ℕ) (long : n ≤ length slots) (found : tie_place account_before e (take n slots) ≡ Some i) where
-  found_below : i < n
-  found_below = omega (arith, (tie-found account_before e (take n slots) i found).0, length-take-le n slots long)
+module _ (xs : List Entry) (e : Entry) where
+  pub room-left : Sound (insert_ranked account_before e xs) → length xs < 192
+  room-left s = omega (arith, sound-fits (insert_ranked account_before e xs) s, length-insert_ranked account_before e xs)
 
-  pub found-slot : Apart (take n slots) → balance_in (take n slots) e.holder e.asset ≡ (get_or slots i no_entry).balance
-  found-slot u = read_found (take n slots) e u i found ∙ ap of_entry (get_or-take n slots i no_entry found_below)
+-- a write through the slice of the entries
+pub rewritten : (xs ys : List Entry) (i : ℕ) (e : Entry) → ys ≡ xs → refill (length xs) xs (set ys i e) ≡ set xs i e
+rewritten xs ys i e is =
+    let r = items-with_items (record { items = xs }) (set ys i e) (length-set ys i e ∙ ap length is) in
+    r ∙ ap (λ l. set l i e) is
 
-  pub set-slot : take n (set slots i e) ≡ set (take n slots) i e
-  set-slot = take-set-lt n slots i e found_below
-
-pub room-left : (slots : List Entry) (n : ℕ) (e : Entry) → n ≤ length slots → Sound (insert_ranked account_before e (take n slots)) → n < 192
-room-left slots n e long s = omega (arith, sound-fits (insert_ranked account_before e (take n slots)) s, length-insert_ranked account_before e (take n slots), length-take-le n slots long)
-
-pub kept : (t : Accounts) → Sound (take t.len t.entries)
+pub kept : (t : Accounts) → Sound t.entries.items
 kept t = record { ranked = t.ranked; apart = t.apart; known = t.known; filled = t.filled; bounded = t.bounded }
 
-pub kept-apart : (t : Accounts) → Apart (take t.len t.entries)
-kept-apart t = sound-apart (take t.len t.entries) (kept t)
+pub kept-apart : (t : Accounts) → Apart t.entries.items
+kept-apart t = sound-apart t.entries.items (kept t)
+
+pub empty-sound : Sound []
+empty-sound = record { ranked = refl; apart = refl; known = refl; filled = refl; bounded = empty-bounded }

@@ -1,24 +1,44 @@
 -- The writes of a bottom register make the movements of the book.
-use Rattle.std.proofs.Common.{◌≡◌, ℕ, ◌+◌, ◌-◌, ◌<◌, ◌≤◌, true, leb, None, Ok, sym, ap, ◌∙◌, arith}
+use Rattle.std.proofs.Common.{◌≡◌, ℕ, ◌+◌, ◌-◌, ◌<◌, ◌≤◌, Bool, true, false, leb, None, Ok, sym, ap, ◌∙◌, arith}
 use Rattle.std.proofs.lemmas.Bool.Decides.{nat_tests}
-use Rattle.register.specs.declared.faults.RegisterCause.TheVariants.{NoAccount, BadAmount}
+use Rattle.register.specs.declared.faults.RegisterCause.TheVariants.{BadAmount}
 use Rattle.register.specs.declared.faults.RegisterFault.{RegisterFault}
 use Rattle.register.specs.Books.{Book, total, most_amount}
-use Rattle.register.specs.Moves.{Move, Deposit, Withdraw, Block, Release, Pay, refusal, moved, after_move, granted, need, fault, known, lawful_amount}
+use Rattle.register.specs.Moves.{Move, Deposit, Withdraw, Block, Release, Pay, refusal, moved, after_move, granted, need, fault, lawful_amount}
 use Rattle.register.proofs.Grants.{AccountKnown, after-made}
 use Rattle.register.proofs.Totals.{within-total}
+use Rattle.registers.specs.declared.accounts.Known.{Known}
 use Rattle.registers.specs.declared.balances.Balance.{Balance}
 use Rattle.registers.specs.Balances.{with_balance, balance_of}
 use Rattle.registers.proofs.Written.{written-deposit, written-withdraw, written-block, written-release, written-taken, total-written}
 
-pub account-known : (h a : ℕ) (u : Unit {0}) → Ok u ≡ granted (need (known h a) (fault NoAccount h a 0) None) tt → AccountKnown h a
-account-known h a u e = record { holder = grind (arith, nat_tests); asset = grind (arith, nat_tests) }
+pub account_is : (x : Known) → AccountKnown x.holder x.asset
+account_is x = record { holder = x.holder_known; asset = x.asset_known }
+
+-- the account of a movement is the one that was asked for
+pub moved_at : (f : ℕ → ℕ → Book) {h k a c : ℕ} → h ≡ k → a ≡ c → f h a ≡ f k c
+moved_at f {h} {k} {a} {c} e d = ap (λ x. f x a) e ∙ ap (λ y. f k y) d
 
 pub amount-lawful : (h a n : ℕ) (u : Unit {0}) → Ok u ≡ granted (need (lawful_amount n) (fault BadAmount h a 0) None) tt → lawful_amount n ≡ true
 amount-lawful h a n u e = grind (arith, nat_tests)
 
 pub covered : (n m : ℕ) (f : RegisterFault) (u : Unit {0}) → Ok u ≡ granted (need (leb n m) f None) tt → n ≤ m
 covered n m f u e = grind (arith, nat_tests)
+
+-- a balance that was asked to cover an amount
+had-is : (b : Bool) (f : RegisterFault) (x y : Balance) → Ok x ≡ granted (need b f None) y → x ≡ y
+had-is true f x y e = cc
+had-is false f x y e = absurd (let z : ◌≡◌ {A = ℕ} 0 1 = cc in omega arith)
+
+had-covers : (n m : ℕ) (f : RegisterFault) (x y : Balance) → Ok x ≡ granted (need (leb n m) f None) y → n ≤ m
+had-covers n m f x y e = grind (arith, nat_tests)
+
+module _ (b : Book) (h a n : ℕ) (x : Balance) (f : RegisterFault) where
+  pub had-free : Ok x ≡ granted (need (leb n (b.free h a)) f None) (balance_of b h a) → (x ≡ balance_of b h a) × (n ≤ x.free)
+  had-free e = let is = had-is _ f x _ e in (is, omega (arith, had-covers n _ f x _ e, ap (λ (v : Balance). v.free) is))
+
+  pub had-blocked : Ok x ≡ granted (need (leb n (b.blocked h a)) f None) (balance_of b h a) → (x ≡ balance_of b h a) × (n ≤ x.blocked)
+  had-blocked e = let is = had-is _ f x _ e in (is, omega (arith, had-covers n _ f x _ e, ap (λ (v : Balance). v.blocked) is))
 
 -- no balance is above the most
 pub small : (b : Book) (h a : ℕ) → AccountKnown h a → ((y : ℕ) → y < 12 → total b y ≤ most_amount) → b.free h a + b.blocked h a ≤ most_amount

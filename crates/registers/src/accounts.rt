@@ -4,13 +4,21 @@ ghost use Rattle.registers.specs.Balances.{balance_of, with_balance};
 
 use crate::balances::Balance;
 
+// An account that there is, as the check of a holder and an asset gives it.
+#[derive(Clone, Copy)]
+pub(crate) struct Known {
+    pub(crate) holder: u8,
+    pub(crate) asset: u8,
+    ghost holder_known: { holder < 16 },
+    ghost asset_known: { asset < 12 },
+}
+
 // Where a bottom register keeps its balances: a place for each account, and nothing of refusals.
 pub(crate) trait Accounts {
     ghost book: { Self → Book };
 
-    fn balance(&self, holder: u8, asset: u8) -> Balance
-        requires { (holder < 16) × (asset < 12) }
-        ensures { result ≡ balance_of (book self.now) holder asset };
+    fn balance(&self, account: Known) -> Balance
+        ensures { result ≡ balance_of (book self.now) account.holder account.asset };
 
     // What all holders have of an asset, free and blocked.
     fn held(&self, asset: u8) -> u64
@@ -18,11 +26,9 @@ pub(crate) trait Accounts {
         ensures { result ≡ total (book self.now) asset };
 
     // Writes one balance; the asset's total stays within the most.
-    fn put(&mut self, holder: u8, asset: u8, balance: Balance)
-        requires holder { holder < 16 }
-        requires asset { asset < 12 }
-        requires room { total (book self.old) asset + (balance.free + balance.blocked) ≤ most_amount + ((book self.old).free holder asset + (book self.old).blocked holder asset) }
-        ensures { book self.new ≡ with_balance (book self.old) holder asset balance };
+    fn put(&mut self, account: Known, balance: Balance)
+        requires { total (book self.old) account.asset + (balance.free + balance.blocked) ≤ most_amount + ((book self.old).free account.holder account.asset + (book self.old).blocked account.holder account.asset) }
+        ensures { book self.new ≡ with_balance (book self.old) account.holder account.asset balance };
 
     ghost bounded: { (s : Self) (a : ℕ) → a < 12 → total (book s) a ≤ most_amount };
 

@@ -1,16 +1,14 @@
-ghost use Rattle.std.specs.Prelude.{◌≡◌, None, nat_le};
-ghost use Rattle.register.specs.Moves.{Release, Pay, refusal, after_move, need, known, fault, lawful_amount, granted};
+ghost use Rattle.std.specs.Prelude.{◌≡◌, ◌<◌, None, nat_le, false, MatchResult};
+ghost use Rattle.register.specs.Moves.{Release, Pay, refusal, after_move, need, known, fault, lawful_amount, granted, handed_back};
+ghost use Rattle.registers.specs.Balances.{balance_of};
 ghost use Rattle.register.specs.declared.faults.RegisterCause.TheVariants.{NoAccount, BadAmount, TooLittleFree, TooLittleBlocked};
 ghost use Rattle.std.proofs.Common.{rules};
 
-use crate::accounts::Accounts;
+use crate::accounts::{Accounts, Known};
 use crate::balances::Balance;
 use register::faults::{Account, RegisterCause, RegisterFault};
-use register::registers::Register;
+use register::registers::{MOST, Register};
 use register::slips::Slip;
-
-// All holders together never have more of an asset, and no cap is higher.
-const MOST: u64 = 10_000_000_000_000_000;
 
 // A bottom register: it stands on no other register, keeps the balances in `accounts`, and has every cap
 // at the most.
@@ -27,63 +25,92 @@ impl<A> Bottom<A> {
     }
 }
 
-fn check_account(holder: u8, asset: u8) -> Result<(), RegisterFault>
-    ensures { result ≡ granted (need (known holder asset) (fault NoAccount holder asset 0) None) tt }
+// Refuses with a cause unless the condition holds.
+fn check(met: bool, cause: RegisterCause, holder: u8, asset: u8) -> Result<(), RegisterFault>
+    ensures { result ≡ granted (need met (fault cause holder asset 0) None) tt }
 {
-    if holder < 16 && asset < 12 {
-        Ok(())
-    } else {
-        Err(RegisterFault::untagged(RegisterCause::NoAccount, holder, asset))
-    }
+    met.then_some(())
+        .ok_or_else(|| RegisterFault::untagged(cause, holder, asset))
+}
+
+// The account, where there is one.
+fn check_account(holder: u8, asset: u8) -> Result<Known, RegisterFault>
+    ensures { MatchResult result (λ k. (k.holder ≡ holder) × (k.asset ≡ asset)) (λ f. (known holder asset ≡ false) × (f ≡ fault NoAccount holder asset 0)) }
+{
+    check(
+        holder < 16 && asset < 12,
+        RegisterCause::NoAccount,
+        holder,
+        asset,
+    )?;
+    Ok(Known { holder, asset })
 }
 
 fn check_amount(holder: u8, asset: u8, amount: u64) -> Result<(), RegisterFault>
     ensures { result ≡ granted (need (lawful_amount amount) (fault BadAmount holder asset 0) None) tt }
 {
-    if amount >= 1 && amount <= MOST {
-        Ok(())
-    } else {
-        Err(RegisterFault::untagged(RegisterCause::BadAmount, holder, asset))
-    }
+    check(
+        (1..=MOST).contains(&amount),
+        RegisterCause::BadAmount,
+        holder,
+        asset,
+    )
 }
 
-fn check_free(holder: u8, asset: u8, amount: u64, free: u64) -> Result<(), RegisterFault>
-    ensures { result ≡ granted (need (nat_le amount free) (fault TooLittleFree holder asset 0) None) tt }
+// The answer of a call that takes a slip: a movement that is made ends the slip, a refusal hands it back.
+fn settled(made: Result<(), RegisterFault>, slip: Slip) -> Result<(), (RegisterFault, Slip)>
+    ensures { (refused : _) → made ≡ granted refused tt → result ≡ handed_back refused slip }
 {
-    if amount <= free {
-        Ok(())
-    } else {
-        Err(RegisterFault::untagged(RegisterCause::TooLittleFree, holder, asset))
-    }
-}
-
-fn check_blocked(holder: u8, asset: u8, amount: u64, blocked: u64) -> Result<(), RegisterFault>
-    ensures { result ≡ granted (need (nat_le amount blocked) (fault TooLittleBlocked holder asset 0) None) tt }
-{
-    if amount <= blocked {
-        Ok(())
-    } else {
-        Err(RegisterFault::untagged(RegisterCause::TooLittleBlocked, holder, asset))
+    match made {
+        Ok(()) => {
+            slip.into_parts();
+            Ok(())
+        }
+        Err(fault) => Err((fault, slip)),
     }
 }
 
 impl<A: Accounts> Bottom<A> {
+    // The balance of an account with at least this much free.
+    fn having_free(&self, account: Known, amount: u64) -> Result<Balance, RegisterFault>
+        ensures { result ≡ granted (need (nat_le amount ((A.Accounts.book self.now.accounts).free account.holder account.asset)) (fault TooLittleFree account.holder account.asset 0) None) (balance_of (A.Accounts.book self.now.accounts) account.holder account.asset) }
+    {
+        let balance = self.accounts.balance(account);
+        check(
+            amount <= balance.free,
+            RegisterCause::TooLittleFree,
+            account.holder,
+            account.asset,
+        )?;
+        Ok(balance)
+    }
+
+    // The balance of an account with at least this much blocked.
+    fn having_blocked(&self, account: Known, amount: u64) -> Result<Balance, RegisterFault>
+        ensures { result ≡ granted (need (nat_le amount ((A.Accounts.book self.now.accounts).blocked account.holder account.asset)) (fault TooLittleBlocked account.holder account.asset 0) None) (balance_of (A.Accounts.book self.now.accounts) account.holder account.asset) }
+    {
+        let balance = self.accounts.balance(account);
+        check(
+            amount <= balance.blocked,
+            RegisterCause::TooLittleBlocked,
+            account.holder,
+            account.asset,
+        )?;
+        Ok(balance)
+    }
+
     // Moves an amount from blocked to free.
     fn free_again(&mut self, holder: u8, asset: u8, amount: u64) -> Result<(), RegisterFault>
         ensures answer { result ≡ granted (refusal (A.Accounts.book self.old.accounts) (Release holder asset amount)) tt }
         ensures after { A.Accounts.book self.new.accounts ≡ after_move (A.Accounts.book self.old.accounts) (Release holder asset amount) }
     {
-        check_account(holder, asset)?;
-        let Balance { free, blocked } = self.accounts.balance(holder, asset);
-        check_blocked(holder, asset, amount, blocked)?;
-        self.accounts.put(
-            holder,
-            asset,
-            Balance {
-                free: free + amount,
-                blocked: blocked - amount,
-            },
-        );
+        let account = check_account(holder, asset)?;
+        let Balance { free, blocked } = self.having_blocked(account, amount)?;
+        let after = Balance {
+            free: free + amount,
+            blocked: blocked - amount,
+        };
+        self.accounts.put(account, after);
         Ok(())
     }
 
@@ -98,27 +125,20 @@ impl<A: Accounts> Bottom<A> {
         ensures answer { result ≡ granted (refusal (A.Accounts.book self.old.accounts) (Pay holder asset amount payee)) tt }
         ensures after { A.Accounts.book self.new.accounts ≡ after_move (A.Accounts.book self.old.accounts) (Pay holder asset amount payee) }
     {
-        check_account(holder, asset)?;
-        check_account(payee, asset)?;
-        let Balance { free, blocked } = self.accounts.balance(holder, asset);
-        check_blocked(holder, asset, amount, blocked)?;
-        self.accounts.put(
-            holder,
-            asset,
-            Balance {
-                free,
-                blocked: blocked - amount,
-            },
-        );
-        let Balance { free, blocked } = self.accounts.balance(payee, asset);
-        self.accounts.put(
-            payee,
-            asset,
-            Balance {
-                free: free + amount,
-                blocked,
-            },
-        );
+        let payer = check_account(holder, asset)?;
+        let payee = check_account(payee, asset)?;
+        let from = self.having_blocked(payer, amount)?;
+        let paid = Balance {
+            blocked: from.blocked - amount,
+            ..from
+        };
+        self.accounts.put(payer, paid);
+        let to = self.accounts.balance(payee);
+        let given = Balance {
+            free: to.free + amount,
+            ..to
+        };
+        self.accounts.put(payee, given);
         Ok(())
     }
 }
@@ -129,8 +149,8 @@ impl<A: Accounts> Register for Bottom<A> {
     ghost bounded = { Prim.search rules };
 
     fn read(&self, holder: u8, asset: u8) -> Result<Account, RegisterFault> {
-        check_account(holder, asset)?;
-        let Balance { free, blocked } = self.accounts.balance(holder, asset);
+        let account = check_account(holder, asset)?;
+        let Balance { free, blocked } = self.accounts.balance(account);
         Ok(Account {
             free,
             blocked,
@@ -139,75 +159,61 @@ impl<A: Accounts> Register for Bottom<A> {
     }
 
     fn deposit(&mut self, holder: u8, asset: u8, amount: u64) -> Result<(), RegisterFault> {
-        check_account(holder, asset)?;
+        let account = check_account(holder, asset)?;
         check_amount(holder, asset, amount)?;
-        if self.accounts.held(asset) + amount > MOST {
-            return Err(RegisterFault::untagged(RegisterCause::OverTotal, holder, asset));
-        }
-        let Balance { free, blocked } = self.accounts.balance(holder, asset);
-        self.accounts.put(
+        let held = self.accounts.held(asset);
+        check(
+            held + amount <= MOST,
+            RegisterCause::OverTotal,
             holder,
             asset,
-            Balance {
-                free: free + amount,
-                blocked,
-            },
-        );
+        )?;
+        let before = self.accounts.balance(account);
+        let after = Balance {
+            free: before.free + amount,
+            ..before
+        };
+        self.accounts.put(account, after);
         Ok(())
     }
 
     fn withdraw(&mut self, holder: u8, asset: u8, amount: u64) -> Result<(), RegisterFault> {
-        check_account(holder, asset)?;
+        let account = check_account(holder, asset)?;
         check_amount(holder, asset, amount)?;
-        let Balance { free, blocked } = self.accounts.balance(holder, asset);
-        check_free(holder, asset, amount, free)?;
-        self.accounts.put(
-            holder,
-            asset,
-            Balance {
-                free: free - amount,
-                blocked,
-            },
-        );
+        let before = self.having_free(account, amount)?;
+        let after = Balance {
+            free: before.free - amount,
+            ..before
+        };
+        self.accounts.put(account, after);
         Ok(())
     }
 
     fn block(&mut self, holder: u8, asset: u8, amount: u64) -> Result<Slip, RegisterFault> {
-        check_account(holder, asset)?;
+        let account = check_account(holder, asset)?;
         check_amount(holder, asset, amount)?;
-        let Balance { free, blocked } = self.accounts.balance(holder, asset);
-        check_free(holder, asset, amount, free)?;
-        if blocked + amount > MOST {
-            return Err(RegisterFault::untagged(RegisterCause::OverCap, holder, asset));
-        }
-        self.accounts.put(
+        let Balance { free, blocked } = self.having_free(account, amount)?;
+        check(
+            blocked + amount <= MOST,
+            RegisterCause::OverCap,
             holder,
             asset,
-            Balance {
-                free: free - amount,
-                blocked: blocked + amount,
-            },
-        );
+        )?;
+        let after = Balance {
+            free: free - amount,
+            blocked: blocked + amount,
+        };
+        self.accounts.put(account, after);
         Ok(Slip::new(holder, asset, amount))
     }
 
     fn release(&mut self, slip: Slip) -> Result<(), (RegisterFault, Slip)> {
-        match self.free_again(slip.holder(), slip.asset(), slip.amount()) {
-            Ok(()) => {
-                slip.into_parts();
-                Ok(())
-            }
-            Err(fault) => Err((fault, slip)),
-        }
+        let made = self.free_again(slip.holder(), slip.asset(), slip.amount());
+        settled(made, slip)
     }
 
     fn pay(&mut self, slip: Slip, payee: u8) -> Result<(), (RegisterFault, Slip)> {
-        match self.pay_over(slip.holder(), slip.asset(), slip.amount(), payee) {
-            Ok(()) => {
-                slip.into_parts();
-                Ok(())
-            }
-            Err(fault) => Err((fault, slip)),
-        }
+        let made = self.pay_over(slip.holder(), slip.asset(), slip.amount(), payee);
+        settled(made, slip)
     }
 }

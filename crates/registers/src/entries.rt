@@ -6,7 +6,7 @@ use crate::balances::Balance;
 use ranking::Ranking;
 
 // An account in a list, and what it has.
-#[derive(Clone, Copy)]
+#[derive(Clone, Copy, Default)]
 pub struct Entry {
     pub(crate) holder: u8,
     pub(crate) asset: u8,
@@ -18,7 +18,7 @@ impl Entry {
     pub(crate) fn has_something(&self) -> bool
         ensures { result ≡ is_filled self.now }
     {
-        self.balance.free > 0 || self.balance.blocked > 0
+        self.balance != Balance::default()
     }
 }
 
@@ -37,6 +37,6 @@ impl Ranking for ByAccount {
     ghost negative = { Prim.search rules };
 
     fn is_before(a: &Entry, b: &Entry) -> bool {
-        a.holder < b.holder || a.holder == b.holder && a.asset < b.asset
+        (a.holder, a.asset) < (b.holder, b.asset)
     }
 }

@@ -1,4 +1,4 @@
-ghost use Rattle.std.specs.Prelude.{◌≡◌, ◌≤◌, true, length, take};
+ghost use Rattle.std.specs.Prelude.{◌≡◌, ◌≤◌, true, length};
 ghost use Rattle.std.specs.List.{list_all};
 ghost use Rattle.ranking.specs.Ranks.{is_distinct, is_ranked, ties, tie_place};
 ghost use Rattle.register.specs.Books.{empty_book};
@@ -6,48 +6,41 @@ ghost use Rattle.registers.specs.Tables.{nothing};
 ghost use Rattle.registers.specs.Lists.{account_before, is_known_lem, is_filled, list_book, TotalsBounded};
 ghost use Rattle.std.proofs.Common.{rules, arith};
 
-use crate::accounts::Accounts;
+use crate::accounts::{Accounts, Known};
 use crate::balances::Balance;
 use crate::bottom::Bottom;
 use crate::entries::{ByAccount, Entry};
+use arrayvec::ArrayVec;
 use ranking::{find, insert, remove};
 
-// The accounts that have something, in the first `len` places, ranked by holder and then asset.
+// The accounts that have something, ranked by holder and then asset.
 #[derive(Drop)]
 pub struct List {
-    entries: [Entry; 192],
-    len: usize,
-    ghost sized: { length entries ≡ 192 },
-    ghost within: { len ≤ 192 },
-    ghost ranked: { is_ranked account_before (take len entries) ≡ true },
-    ghost apart: { is_distinct (ties account_before) (take len entries) ≡ true },
-    ghost known: { list_all is_known_lem (take len entries) ≡ true },
-    ghost filled: { list_all is_filled (take len entries) ≡ true },
-    ghost bounded: { TotalsBounded (take len entries) },
+    entries: ArrayVec<Entry, 192>,
+    ghost within: { length entries.items ≤ 192 },
+    ghost ranked: { is_ranked account_before entries.items ≡ true },
+    ghost apart: { is_distinct (ties account_before) entries.items ≡ true },
+    ghost known: { list_all is_known_lem entries.items ≡ true },
+    ghost filled: { list_all is_filled entries.items ≡ true },
+    ghost bounded: { TotalsBounded entries.items },
 }
 
 impl List {
     // The place of an account's entry.
-    fn place(&self, holder: u8, asset: u8) -> Option<usize>
-        ensures { result ≡ tie_place account_before (record { holder = holder; asset = asset; balance = nothing }) (take self.now.len self.now.entries) }
+    fn place(&self, account: Known) -> Option<usize>
+        ensures { result ≡ tie_place account_before (record { holder = account.holder; asset = account.asset; balance = nothing }) self.now.entries.items }
     {
-        let balance = Balance {
-            free: 0,
-            blocked: 0,
+        let sought = Entry {
+            holder: account.holder,
+            asset: account.asset,
+            ..Entry::default()
         };
-        find::<ByAccount>(
-            &self.entries[..self.len],
-            &Entry {
-                holder,
-                asset,
-                balance,
-            },
-        )
+        find::<ByAccount>(self.entries.as_slice(), &sought)
     }
 }
 
 impl Accounts for List {
-    ghost book = { λ s. list_book (take s.len s.entries) };
+    ghost book = { λ s. list_book s.entries.items };
 
     ghost bounded = { first_of (Prim.search rules, Prim.grind (arith, Self.row.coded.inj)) };
 
@@ -55,45 +48,38 @@ impl Accounts for List {
 
     ghost untagged = { first_of (Prim.search rules, Prim.grind (arith, Self.row.coded.inj)) };
 
-    fn balance(&self, holder: u8, asset: u8) -> Balance {
-        match self.place(holder, asset) {
+    fn balance(&self, account: Known) -> Balance {
+        match self.place(account) {
             Some(at) => self.entries[at].balance,
-            None => Balance {
-                free: 0,
-                blocked: 0,
-            },
+            None => Balance::default(),
         }
     }
 
     fn held(&self, asset: u8) -> u64 {
-        let mut sum = 0;
-        for entry in &self.entries[..self.len] {
-            if entry.asset == asset {
-                sum += entry.balance.free + entry.balance.blocked;
-            }
-        }
-        sum
+        self.entries
+            .iter()
+            .filter(|entry| entry.asset == asset)
+            .map(|entry| entry.balance.free + entry.balance.blocked)
+            .sum()
     }
 
-    fn put(&mut self, holder: u8, asset: u8, balance: Balance) {
+    fn put(&mut self, account: Known, balance: Balance) {
         let written = Entry {
-            holder,
-            asset,
+            holder: account.holder,
+            asset: account.asset,
             balance,
         };
-        match self.place(holder, asset) {
+        match self.place(account) {
             Some(at) => {
                 if written.has_something() {
                     self.entries[at] = written;
                 } else {
-                    remove::<ByAccount>(&mut self.entries, self.len, at);
-                    self.len -= 1;
+                    remove::<ByAccount, 192>(&mut self.entries, at);
                 }
             }
             None => {
                 if written.has_something() {
-                    insert::<ByAccount>(&mut self.entries, self.len, written);
-                    self.len += 1;
+                    insert::<ByAccount, 192>(&mut self.entries, written);
                 }
             }
         }
@@ -106,19 +92,9 @@ pub type ListRegister = Bottom<List>;
 impl Bottom<List> {
     // Nothing is held, and every cap is at the most.
     pub fn empty() -> ListRegister
-        ensures { list_book (take result.accounts.len result.accounts.entries) ≡ empty_book }
+        ensures { list_book result.accounts.entries.items ≡ empty_book }
     {
-        let balance = Balance {
-            free: 0,
-            blocked: 0,
-        };
-        Bottom::over(List {
-            entries: [Entry {
-                holder: 0,
-                asset: 0,
-                balance,
-            }; 192],
-            len: 0,
-        })
+        let entries = ArrayVec::new();
+        Bottom::over(List { entries })
     }
 }

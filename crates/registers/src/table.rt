@@ -1,9 +1,9 @@
-ghost use Rattle.std.specs.Prelude.{◌≡◌, length};
+ghost use Rattle.std.specs.Prelude.{◌≡◌, ◌+◌, ◌*◌, length};
 ghost use Rattle.register.specs.Books.{empty_book};
 ghost use Rattle.registers.specs.Tables.{table_book, Bounded};
 ghost use Rattle.std.proofs.Common.{rules, arith};
 
-use crate::accounts::Accounts;
+use crate::accounts::{Accounts, Known};
 use crate::balances::Balance;
 use crate::bottom::Bottom;
 
@@ -15,6 +15,13 @@ pub struct Table {
     ghost bounded: { Bounded balances },
 }
 
+// Where a holder's balance of an asset stands.
+fn place(holder: u8, asset: u8) -> usize
+    ensures { result ≡ 12 * holder + asset }
+{
+    12 * holder as usize + asset as usize
+}
+
 impl Accounts for Table {
     ghost book = { λ s. table_book s.balances };
 
@@ -24,21 +31,22 @@ impl Accounts for Table {
 
     ghost untagged = { first_of (Prim.search rules, Prim.grind (arith, Self.row.coded.inj)) };
 
-    fn balance(&self, holder: u8, asset: u8) -> Balance {
-        self.balances[12 * holder as usize + asset as usize]
+    fn balance(&self, account: Known) -> Balance {
+        self.balances[place(account.holder, account.asset)]
     }
 
     fn held(&self, asset: u8) -> u64 {
-        let mut sum = 0;
-        for holder in 0..16 {
-            let balance = self.balance(holder, asset);
-            sum += balance.free + balance.blocked;
-        }
-        sum
+        (0..16)
+            .map(|holder| {
+                let balance = self.balances[place(holder, asset)];
+                balance.free + balance.blocked
+            })
+            .sum()
     }
 
-    fn put(&mut self, holder: u8, asset: u8, balance: Balance) {
-        self.balances[12 * holder as usize + asset as usize] = balance;
+    fn put(&mut self, account: Known, balance: Balance) {
+        let at = place(account.holder, account.asset);
+        self.balances[at] = balance;
     }
 }
 
@@ -51,10 +59,7 @@ impl Bottom<Table> {
         ensures { table_book result.accounts.balances ≡ empty_book }
     {
         Bottom::over(Table {
-            balances: [Balance {
-                free: 0,
-                blocked: 0,
-            }; 192],
+            balances: [Balance::default(); 192],
         })
     }
 }

@@ -16,6 +16,10 @@ is_price_lem n = leb 1 n && leb n most_price
 abbrev pub is_lots_lem : ℕ → Bool
 is_lots_lem n = leb 1 n && leb n most_lots
 
+abbrev pub other : Side → Side
+other Buy = Sell
+other Sell = Buy
+
 -- side, price or none, lots: a sell obliges to its lots, a priced buy to price × lots of the currency; a buy without a price obliges to
 -- nothing by itself
 abbrev pub obligation_of : Side → Option ℕ → ℕ → ℕ

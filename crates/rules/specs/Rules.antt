@@ -1,5 +1,5 @@
 -- Market rules: what a rule means, its law, and the rules of the two markets.
-use Rattle.std.specs.Prelude.{◌*◌, ◌%◌, ◌≤◌, ◌≡◌, ◌&&◌}
+use Rattle.std.specs.Prelude.{◌*◌, ◌%◌, ◌≤◌, ◌≡◌, ◌&&◌, List, codes}
 use Rattle.rules.specs.Words.{ℕ, Bool, true, false, not, leb, eqb, Option, Some, None, Result, Ok, Err}
 use Rattle.rules.specs.Words.{Side, Buy, Sell, Question, RuleRefusal, NotWholeSteps, OffBest, OffSettlement, OppositeBid}
 
@@ -23,6 +23,13 @@ refusal_number NotWholeSteps = 21
 refusal_number OffBest = 22
 refusal_number OffSettlement = 23
 refusal_number OppositeBid = 24
+
+-- why a rule refuses
+abbrev pub refusal_text : RuleRefusal → List ℕ
+refusal_text NotWholeSteps = codes "the lots are not whole steps"
+refusal_text OffBest = codes "the price is too far from the best"
+refusal_text OffSettlement = codes "the price is too far from the settlement price"
+refusal_text OppositeBid = codes "the holder has a standing bid on the other side"
 
 -- the number of a verdict: 0 where the bid is admitted
 abbrev pub verdict_number : Option RuleRefusal → ℕ

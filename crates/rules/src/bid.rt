@@ -1,6 +1,6 @@
 // The words of a bid that a rule is asked about, and what the bid obliges to.
 ghost use Rattle.std.specs.Prelude.{◌≡◌};
-ghost use Rattle.rules.specs.Bids.{is_price_lem, is_lots_lem, obligation_of};
+ghost use Rattle.rules.specs.Bids.{other, is_price_lem, is_lots_lem, obligation_of};
 
 #[derive(Clone, Copy, PartialEq, Eq, Debug)]
 pub enum Side {
@@ -8,9 +8,20 @@ pub enum Side {
     Sell,
 }
 
+impl Side {
+    pub fn opposite(self) -> Side
+        ensures { result ≡ other self }
+    {
+        match self {
+            Side::Buy => Side::Sell,
+            Side::Sell => Side::Buy,
+        }
+    }
+}
+
 // What a rule is asked before a bid is registered. The bests are the prices of the first standing buy and the first standing sell of the
 // ticker, and `opposite` says that the bid's holder has a standing bid on the other side of it.
-#[derive(Clone, Copy)]
+#[derive(Clone, Copy, PartialEq, Eq, Debug)]
 pub struct Question {
     pub side: Side,
     pub price: Option<u32>,
@@ -30,13 +41,13 @@ pub const MOST_LOTS: u64 = 1_000_000;
 pub fn is_price(number: u64) -> bool
     ensures { result ≡ is_price_lem number }
 {
-    1 <= number && number <= MOST_PRICE
+    (1..=MOST_PRICE).contains(&number)
 }
 
 pub fn is_lots(number: u64) -> bool
     ensures { result ≡ is_lots_lem number }
 {
-    1 <= number && number <= MOST_LOTS
+    (1..=MOST_LOTS).contains(&number)
 }
 
 // What a bid obliges its holder to: a priced buy to an amount of the currency, a sell to its lots of the ticker. A buy without a price

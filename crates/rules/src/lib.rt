@@ -9,7 +9,7 @@ mod rule;
 pub use bid::{MOST_LOTS, MOST_PRICE, Question, Side, is_lots, is_price, obligation};
 pub use laws::{corporate_stands, figures_hold, government_stands, obligation_stands};
 pub use markets::{Corporate, Government};
-pub use rule::{MarketRule, RuleRefusal};
+pub use rule::{MarketRule, RuleRefusal, check};
 
 #[cfg(test)]
 mod tests {

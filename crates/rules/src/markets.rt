@@ -4,7 +4,7 @@ ghost use Rattle.rules.specs.Rules.{answered, need, at_least, at_most, near_best
 ghost use Rattle.std.proofs.Common.{rules};
 
 use crate::bid::{Question, Side};
-use crate::rule::{MarketRule, RuleRefusal};
+use crate::rule::{MarketRule, RuleRefusal, check};
 
 // The rule of corporate securities.
 #[derive(Clone, Copy)]
@@ -24,31 +24,18 @@ const GOVERNMENT_STEP: u32 = 10;
 fn at_least(percent: u8, price: Option<u32>, other: Option<u32>) -> bool
     ensures { result ≡ at_least percent price other }
 {
-    match (price, other) {
-        (Some(price), Some(other)) => {
-            u64::from(percent) * u64::from(other) <= 100 * u64::from(price)
-        }
-        _ => true,
-    }
+    price.zip(other).is_none_or(|(price, other)| {
+        u64::from(percent) * u64::from(other) <= 100 * u64::from(price)
+    })
 }
 
 // Whether the price is at most so many per cent of another.
 fn at_most(percent: u8, price: Option<u32>, other: Option<u32>) -> bool
     ensures { result ≡ at_most percent price other }
 {
-    match (price, other) {
-        (Some(price), Some(other)) => {
-            100 * u64::from(price) <= u64::from(percent) * u64::from(other)
-        }
-        _ => true,
-    }
-}
-
-// One check of a rule: the refusal where it is not met.
-fn check(met: bool, refusal: RuleRefusal) -> Result<(), RuleRefusal>
-    ensures { result ≡ answered (need met refusal None) }
-{
-    if met { Ok(()) } else { Err(refusal) }
+    price.zip(other).is_none_or(|(price, other)| {
+        100 * u64::from(price) <= u64::from(percent) * u64::from(other)
+    })
 }
 
 impl MarketRule for Corporate {

@@ -1,9 +1,13 @@
 -- The first word of a text, cut off at its front.
-use Rattle.std.proofs.Common.{◌≡◌, ℕ, suc, ◌+◌, ◌-◌, ◌<◌, Bool, true, false, cond, not, List, [], ◌∷◌, length, take, drop, sym, refl, ap, ◌∙◌, inl, inr, one-add, arith}
-use Rattle.std.specs.List.{prefix_len}
+use Rattle.std.proofs.Common.{◌≡◌, ℕ, suc, ◌+◌, ◌-◌, ◌<◌, ◌≤◌, ltb, Bool, true, false, cond, not, List, [], ◌∷◌, length, take, drop, Some, None, Option, sym, refl, ap, ◌∙◌, inl, inr, one-add, arith, length-drop, drop-drop}
+use Rattle.std.specs.List.{prefix_len, position_or_len}
+use Rattle.std.specs.Option.{unwrap_or}
+use Rattle.std.proofs.lemmas.List.Recursion.{is_position_or_len}
+use Rattle.std.proofs.lemmas.List.Sums.{prefix_len-le-length}
+use Rattle.std.proofs.lemmas.Bool.Decides.{nat_tests}
 use Rattle.std.proofs.lemmas.Slice.{between_to_end}
-use Rattle.std.proofs.lemmas.Bool.{cases_Bool}
-use Rattle.script.specs.Lines.{blank, in_word, before, words_of}
+use Rattle.std.proofs.lemmas.Bool.{cases_Bool, lt-ltb}
+use Rattle.script.specs.Lines.{blank, other_than, in_word, before, words_of, cut_at}
 
 -- how a run at the front goes on, and how it ends
 module _ {X : Type 0} (p : X → Bool) (x : X) (xs : List X) where
@@ -87,12 +91,39 @@ module _ (cs : List ℕ) (m n : ℕ) (blanks : m ≡ prefix_len blank cs) (bytes
   pub cut-none : n ≡ 0 → words_of cs ≡ []
   cut-none e = words-none cs (count ∙ e)
 
-  pub cut-some : 0 < n →
-      words_of cs ≡ take (n - 0) (take (length cs - m) (drop m cs)) ∷ words_of (take (length (take (length cs - m) (drop m cs)) - n) (drop n (take (length cs - m) (drop m cs))))
-  cut-some h =
+  pub cut-some : (front back : List ℕ) → front ≡ take n (take (length cs - m) (drop m cs)) → back ≡ drop n (take (length cs - m) (drop m cs)) → 0 < n → words_of cs ≡ front ∷ words_of back
+  cut-some front back f b h =
       let t : List ℕ = take (length cs - m) (drop m cs) in
-      let z : n - 0 ≡ n = omega arith in
       words-skip cs ∙ ap words_of rest ∙ words-first t (omega (arith, bytes))
       ∙ ap (λ i. take i t ∷ words_of (drop i t)) (sym bytes)
-      ∙ ap (λ i. take i t ∷ words_of (drop n t)) (sym z)
-      ∙ ap (λ (d : List ℕ). take (n - 0) t ∷ words_of d) (sym (tail t n))
+      ∙ (λ i. sym f i ∷ words_of (sym b i))
+
+-- a cut at the first byte d
+module _ (d : ℕ) (w : List ℕ) (k : ℕ) (run : k ≡ prefix_len (other_than d) w) where
+  parted : ℕ → Option (List ℕ × List ℕ)
+  parted i = Some (take i w, drop (i + 1) w)
+
+  pub cut-sign : (front back : List ℕ) → front ≡ take k w → back ≡ drop k w → 1 ≤ length back → cut_at d w ≡ Some (front, take (length back - 1) (drop 1 back))
+  unfolding parted
+  cut-sign front back f b l =
+      let n : ℕ = prefix_len (other_than d) w in
+      let inside : n < length w = omega (arith, run, ap length b, length-drop k w) in
+      ap (λ (t : Bool). cond t (parted n) None) (lt-ltb n (length w) inside) ∙ ap parted (sym run)
+      ∙ ap (λ (x : List ℕ). Some (take k w, x)) (sym (drop-drop 1 k w) ∙ ap (drop 1) (sym b) ∙ sym (tail back 1))
+      ∙ ap (λ (x : List ℕ). Some (x, take (length back - 1) (drop 1 back))) (sym f)
+
+-- a run ends at the first byte that is not of it, or at the end
+passes-run : (p : ℕ → Bool) (xs : List ℕ) → position_or_len (λ b. not (p b)) xs ≡ prefix_len p xs
+passes-run p xs = sym (is_position_or_len (prefix_len p) (λ b. not (p b)) refl (λ x ys. flip (p x) (prefix_len p ys)) xs)
+  where
+    flip : (t : Bool) (n : ℕ) → cond t (1 + n) 0 ≡ cond (not t) 0 (1 + n)
+    flip true n = refl
+    flip false n = refl
+
+pub run_found : (p : ℕ → Bool) (xs : List ℕ) (o : Option ℕ) (n : ℕ) → o ≡ cond (ltb (position_or_len (λ b. not (p b)) xs) (length xs)) (Some (position_or_len (λ b. not (p b)) xs)) None → n ≡ unwrap_or o (length xs) → n ≡ prefix_len p xs
+run_found p xs o n e u =
+    u ∙ ap (λ (t : Option ℕ). unwrap_or t (length xs)) (e ∙ ap (λ i. cond (ltb i (length xs)) (Some i) None) (passes-run p xs))
+    ∙ up_to (prefix_len p xs) (length xs) (prefix_len-le-length p xs)
+  where
+    up_to : (i l : ℕ) → i ≤ l → unwrap_or (cond (ltb i l) (Some i) None) l ≡ i
+    up_to i l le = grind (arith, nat_tests)

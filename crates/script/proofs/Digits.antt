@@ -1,9 +1,19 @@
 -- The number that digits write.
-use Rattle.std.proofs.Common.{◌≡◌, ℕ, ◌+◌, ◌-◌, ◌*◌, ◌<◌, ◌≤◌, true, List, [], ◌∷◌, length, get_or, drop, Ok, Err, sym, ◌∙◌, arith}
+use Rattle.std.proofs.Common.{◌≡◌, ℕ, ◌+◌, ◌-◌, ◌*◌, ◌<◌, ◌≤◌, Bool, true, eqb, List, [], ◌∷◌, length, get_or, drop, Ok, Err, sym, refl, ◌∙◌, arith}
+use Rattle.std.specs.List.{prefix_len, list_all}
 use Rattle.std.proofs.lemmas.List.{at_drop_more, at_drop_all}
 use Rattle.std.proofs.lemmas.Bool.Decides.{nat_tests}
-use Rattle.script.specs.declared.commands.LineFault.TheVariants.{TooLarge}
-use Rattle.script.specs.Commands.{is_number, value, number_of}
+use Rattle.script.specs.declared.reading.LineFault.TheVariants.{TooLarge}
+use Rattle.script.specs.Lines.{digit}
+use Rattle.script.specs.Reading.{is_number, value, number_of}
+
+-- every byte is of the run at the front if they all pass
+all-run : (p : ℕ → Bool) (xs : List ℕ) → list_all p xs ≡ eqb (prefix_len p xs) (length xs)
+all-run p [] = refl
+all-run p (x ∷ xs) = let more = all-run p xs in grind (arith, nat_tests)
+
+pub all_digits : (w : List ℕ) (r : Bool) → 0 < length w → r ≡ list_all digit w → r ≡ is_number w
+all_digits w r l e = let run = all-run digit w in grind (arith, nat_tests)
 
 pub value_grows : (n : ℕ) (cs : List ℕ) → n ≤ value n cs
 unfolding value

@@ -1,3 +1,4 @@
 pub mod Cut
 pub mod Digits
-pub mod Caps
+pub mod Quotes
+pub mod Choices

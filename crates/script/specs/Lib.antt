@@ -1,4 +1,7 @@
 pub mod Lines
+pub mod Reading
+pub mod Bids
+pub mod Listings
 pub mod Commands
-pub mod Replies
 pub mod Options
+pub mod Faults

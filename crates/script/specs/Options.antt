@@ -1,60 +1,78 @@
 -- The program's options: what each word of its command line asks for.
-use Rattle.std.specs.Prelude.{ℕ, ◌+◌, true, false, cond, List, length, take, drop, replicate, Ok, Err, codes, Result, nat_lt, slice_set}
-use Rattle.std.specs.List.{prefix_len}
-use Rattle.std.specs.Str.{bytes_eq}
-use Rattle.script.specs.declared.options.Kind.{Kind}
-use Rattle.script.specs.declared.options.Kind.TheVariants.{Table, List as ListKind, Split}
+use Rattle.std.specs.Prelude.{ℕ, true, false, cond, List, replicate, Some, None, Ok, Err, codes, Option, Result, slice_set}
+use Rattle.register.specs.Books.{most_amount}
+use Rattle.script.specs.declared.options.RegisterKind.{RegisterKind}
+use Rattle.script.specs.declared.options.RegisterKind.TheVariants.{Table, List as ListKind, Split}
+use Rattle.script.specs.declared.options.RuleKind.{RuleKind}
+use Rattle.script.specs.declared.options.RuleKind.TheVariants.{Corporate, Government}
 use Rattle.script.specs.declared.options.Due.{Due}
 use Rattle.script.specs.declared.options.Due.TheVariants as due
+use Rattle.script.specs.declared.options.Flag.{Flag}
+use Rattle.script.specs.declared.options.Flag.TheVariants.{Wants, Help}
 use Rattle.script.specs.declared.options.Options.{Options}
 use Rattle.script.specs.declared.options.OptionFault.{OptionFault}
-use Rattle.script.specs.declared.options.OptionFault.TheVariants.{UnknownOption, UnknownRegister, BadCap, ValueMissing}
-use Rattle.script.specs.declared.words.Class.TheVariants.{NotEquals}
-use Rattle.script.specs.Commands.{number_of, most64}
-use Rattle.script.specs.Lines.{in_class}
+use Rattle.script.specs.declared.options.OptionFault.TheVariants.{UnknownOption, UnknownRegister, UnknownRule, BadCap, ValueMissing}
+use Rattle.script.specs.Lines.{cut_at, same_word}
+use Rattle.script.specs.Reading.{number_of, most64}
 
 -- ASSET=AMOUNT
 abbrev pub cap_of : List ℕ → Result (ℕ × ℕ) OptionFault
 cap_of w =
-    cond (nat_lt (prefix_len (in_class NotEquals) w) (length w))
-    (elim (number_of 11 (take (prefix_len (in_class NotEquals) w) w)) [
-      | Ok a ↦ elim (number_of most64 (drop (prefix_len (in_class NotEquals) w + 1) w)) [ Ok n ↦ Ok (a, n) | Err e ↦ Err BadCap ]
-      | Err e ↦ Err BadCap
-    ])
-    (Err BadCap)
+    elim (cut_at 61 w) [
+      | None ↦ Err BadCap
+      | Some p ↦ elim (number_of 11 p.0) [
+        | Ok a ↦ elim (number_of most64 p.1) [ Ok n ↦ Ok (a, n) | Err e ↦ Err BadCap ]
+        | Err e ↦ Err BadCap
+      ]
+    ]
 
-abbrev pub kind_of : List ℕ → Result Kind OptionFault
-kind_of w =
-    cond (bytes_eq w (codes "table")) (Ok Table)
-    (cond (bytes_eq w (codes "list")) (Ok ListKind)
-    (cond (bytes_eq w (codes "split")) (Ok Split)
+abbrev pub register_of_lem : List ℕ → Result RegisterKind OptionFault
+register_of_lem w =
+    cond (same_word w (codes "table")) (Ok Table)
+    (cond (same_word w (codes "list")) (Ok ListKind)
+    (cond (same_word w (codes "split")) (Ok Split)
     (Err UnknownRegister)))
 
--- with no option: a table register, and every cap at the most
-abbrev pub no_options_lem : Options
-no_options_lem = record { kind = Table; caps = replicate 12 10000000000000000; help = false; due = due.Option }
+abbrev pub rule_of_lem : List ℕ → Result RuleKind OptionFault
+rule_of_lem w = cond (same_word w (codes "corporate")) (Ok Corporate) (cond (same_word w (codes "government")) (Ok Government) (Err UnknownRule))
 
-abbrev pub option_of : Options → List ℕ → Result Options OptionFault
-option_of o w =
-    cond (bytes_eq w (codes "--register")) (Ok (record { kind = o.kind; caps = o.caps; help = o.help; due = due.Register }))
-    (cond (bytes_eq w (codes "--cap")) (Ok (record { kind = o.kind; caps = o.caps; help = o.help; due = due.Cap }))
-    (cond (bytes_eq w (codes "--help")) (Ok (record { kind = o.kind; caps = o.caps; help = true; due = due.Option }))
-    (Err UnknownOption)))
+-- with no option: a table register, the corporate rule, and every cap at the most
+abbrev pub no_options_lem : Options
+no_options_lem = record { register = Table; rule = Corporate; caps = replicate 12 most_amount; help = false; due = None }
+
+abbrev pub flag_of : List ℕ → Result Flag OptionFault
+flag_of w =
+    cond (same_word w (codes "--register")) (Ok (Wants due.Register))
+    (cond (same_word w (codes "--rule")) (Ok (Wants due.Rule))
+    (cond (same_word w (codes "--cap")) (Ok (Wants due.Cap))
+    (cond (same_word w (codes "--help")) (Ok Help)
+    (Err UnknownOption))))
+
+-- the options with one option more, whose value is due next where it wants one
+abbrev pub with_flag : Flag → Options → Options
+with_flag (Wants d) o = record { register = o.register; rule = o.rule; caps = o.caps; help = o.help; due = Some d }
+with_flag Help o = record { register = o.register; rule = o.rule; caps = o.caps; help = true; due = None }
 
 -- the options with one word more
-abbrev pub with_due : Due → Options → List ℕ → Result Options OptionFault
-with_due due.Option o w = option_of o w
-with_due due.Register o w = elim (kind_of w) [ Ok k ↦ Ok (record { kind = k; caps = o.caps; help = o.help; due = due.Option }) | Err e ↦ Err e ]
-with_due due.Cap o w = elim (cap_of w) [ Ok c ↦ Ok (record { kind = o.kind; caps = slice_set o.caps c.0 c.1; help = o.help; due = due.Option }) | Err e ↦ Err e ]
+abbrev pub with_due : Option Due → Options → List ℕ → Result Options OptionFault
+with_due None o w = elim (flag_of w) [ Ok f ↦ Ok (with_flag f o) | Err e ↦ Err e ]
+with_due (Some due.Register) o w =
+    elim (register_of_lem w) [ Ok k ↦ Ok (record { register = k; rule = o.rule; caps = o.caps; help = o.help; due = None }) | Err e ↦ Err e ]
+with_due (Some due.Rule) o w =
+    elim (rule_of_lem w) [ Ok k ↦ Ok (record { register = o.register; rule = k; caps = o.caps; help = o.help; due = None }) | Err e ↦ Err e ]
+with_due (Some due.Cap) o w =
+    elim (cap_of w) [
+      | Ok c ↦ Ok (record { register = o.register; rule = o.rule; caps = slice_set o.caps c.0 c.1; help = o.help; due = None })
+      | Err e ↦ Err e
+    ]
 
 abbrev pub with_word_lem : Options → List ℕ → Result Options OptionFault
 with_word_lem o w = with_due o.due o w
 
 -- an option that wants a value and has none is refused
-abbrev pub complete_due : Due → Options → Result Options OptionFault
-complete_due due.Option o = Ok o
-complete_due due.Register o = Err ValueMissing
-complete_due due.Cap o = Err ValueMissing
+abbrev pub complete_due : Option Due → Options → Result Options OptionFault
+complete_due None o = Ok o
+complete_due (Some d) o = Err ValueMissing
 
 abbrev pub complete : Options → Result Options OptionFault
 complete o = complete_due o.due o

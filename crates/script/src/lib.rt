@@ -1,7 +1,12 @@
-// Calls as lines of text, and the lines that answer them.
+// Lines of text as calls of a floor and looks at it, and the program's options.
 #![tactic(auto)]
 
-pub mod answers;
+mod bids;
 pub mod commands;
+mod deposits;
+mod listings;
+mod looks;
 pub mod options;
-pub mod words;
+pub mod reading;
+mod verbs;
+mod words;

@@ -1,117 +1,171 @@
-ghost use Rattle.std.specs.Prelude.{◌≡◌, Ok, Err};
-ghost use Rattle.script.specs.Options.{cap_of, kind_of, option_of, with_word_lem, complete, no_options_lem};
+// The program's options, word by word of its command line.
+ghost use Rattle.std.specs.Prelude.{◌≡◌, Some};
+ghost use Rattle.script.specs.Faults.{option_text};
+ghost use Rattle.script.specs.Options.{cap_of, register_of_lem, rule_of_lem, flag_of, with_word_lem, complete, no_options_lem};
 
-use crate::commands::{number, same};
-use crate::words::{Class, run_length};
-
-const MOST: u64 = 10_000_000_000_000_000;
+use crate::reading::number;
+use crate::words::{cut_at, one_of};
+use register::registers::MOST;
+use std::error::Error;
+use std::fmt;
 
 // The kinds of register that the program can keep accounts in.
 #[derive(Clone, Copy, PartialEq, Eq, Debug)]
-pub enum Kind {
+pub enum RegisterKind {
     Table,
     List,
     Split,
 }
 
-// What the next word of the command line has to be.
+// The market rules that the program can serve under.
 #[derive(Clone, Copy, PartialEq, Eq, Debug)]
+pub enum RuleKind {
+    Corporate,
+    Government,
+}
+
+// What the value behind an option says.
+#[derive(Clone, Copy)]
 pub enum Due {
-    Option,
     Register,
+    Rule,
     Cap,
 }
 
-// What the command line has asked for so far.
+// What the command line has asked for so far, and the value that its last option still wants.
 #[derive(Clone, Copy)]
 pub struct Options {
-    pub kind: Kind,
+    pub register: RegisterKind,
+    pub rule: RuleKind,
     pub caps: [u64; 12],
     pub help: bool,
-    pub due: Due,
+    pub due: Option<Due>,
 }
 
 #[derive(Clone, Copy, PartialEq, Eq, Debug)]
 pub enum OptionFault {
     UnknownOption,
     UnknownRegister,
+    UnknownRule,
     BadCap,
     ValueMissing,
+}
+
+impl fmt::Display for OptionFault {
+    ghost output = { λ fault. Some (option_text fault) };
+
+    fn fmt<W: fmt::Write>(&self, f: &mut fmt::Formatter<W>) -> fmt::Result {
+        f.write_str(match self {
+            OptionFault::UnknownOption => "no such option: see --help",
+            OptionFault::UnknownRegister => "--register takes table, list or split",
+            OptionFault::UnknownRule => "--rule takes corporate or government",
+            OptionFault::BadCap => "--cap takes ASSET=AMOUNT, an asset from 0 to 11",
+            OptionFault::ValueMissing => "the last option wants a value",
+        })
+    }
+}
+
+impl Error for OptionFault {}
+
+// An option by its word: one that wants a value, or a plain one.
+#[derive(Clone, Copy)]
+enum Flag {
+    Wants(Due),
+    Help,
+}
+
+impl TryFrom<&[u8]> for RegisterKind {
+    type Error = OptionFault;
+
+    ghost try_from_gives = { λ word kind. kind ≡ register_of_lem word.now };
+
+    fn try_from(word: &[u8]) -> Result<RegisterKind, OptionFault> {
+        one_of(
+            word,
+            &[
+                (b"table", RegisterKind::Table),
+                (b"list", RegisterKind::List),
+                (b"split", RegisterKind::Split),
+            ],
+            OptionFault::UnknownRegister,
+        )
+    }
+}
+
+impl TryFrom<&[u8]> for RuleKind {
+    type Error = OptionFault;
+
+    ghost try_from_gives = { λ word kind. kind ≡ rule_of_lem word.now };
+
+    fn try_from(word: &[u8]) -> Result<RuleKind, OptionFault> {
+        one_of(
+            word,
+            &[
+                (b"corporate", RuleKind::Corporate),
+                (b"government", RuleKind::Government),
+            ],
+            OptionFault::UnknownRule,
+        )
+    }
+}
+
+fn flag_of(word: &[u8]) -> Result<Flag, OptionFault>
+    ensures { result ≡ flag_of word.now }
+{
+    one_of(
+        word,
+        &[
+            (b"--register", Flag::Wants(Due::Register)),
+            (b"--rule", Flag::Wants(Due::Rule)),
+            (b"--cap", Flag::Wants(Due::Cap)),
+            (b"--help", Flag::Help),
+        ],
+        OptionFault::UnknownOption,
+    )
 }
 
 // An asset and its cap, as in 4=1000.
 fn cap_of(word: &[u8]) -> Result<(u8, u64), OptionFault>
     ensures { result ≡ cap_of word.now }
 {
-    let at = run_length(word, Class::NotEquals);
-    if at >= word.len() {
-        return Err(OptionFault::BadCap);
-    }
-    let Ok(asset) = number(&word[0..at], 11) else {
-        return Err(OptionFault::BadCap);
-    };
-    let Ok(amount) = number(&word[at + 1..], u64::MAX) else {
-        return Err(OptionFault::BadCap);
-    };
+    let (asset, amount) = cut_at(word, b'=').ok_or(OptionFault::BadCap)?;
+    let asset = number(asset, 11).map_err(|_| OptionFault::BadCap)?;
+    let amount = number(amount, u64::MAX).map_err(|_| OptionFault::BadCap)?;
     Ok((asset as u8, amount))
 }
 
-fn kind_of(word: &[u8]) -> Result<Kind, OptionFault>
-    ensures { result ≡ kind_of word.now }
-{
-    if same(word, b"table") {
-        Ok(Kind::Table)
-    } else if same(word, b"list") {
-        Ok(Kind::List)
-    } else if same(word, b"split") {
-        Ok(Kind::Split)
-    } else {
-        Err(OptionFault::UnknownRegister)
-    }
-}
-
 impl Options {
-    // A table register, and every cap at the most.
+    // A table register, the corporate rule, and every cap at the most.
     pub fn none() -> Options
         ensures { result ≡ no_options_lem }
     {
         Options {
-            kind: Kind::Table,
+            register: RegisterKind::Table,
+            rule: RuleKind::Corporate,
             caps: [MOST; 12],
             help: false,
-            due: Due::Option,
+            due: None,
         }
-    }
-
-    fn option(mut self, word: &[u8]) -> Result<Options, OptionFault>
-        ensures { result ≡ option_of self word.now }
-    {
-        if same(word, b"--register") {
-            self.due = Due::Register;
-        } else if same(word, b"--cap") {
-            self.due = Due::Cap;
-        } else if same(word, b"--help") {
-            self.help = true;
-            self.due = Due::Option;
-        } else {
-            return Err(OptionFault::UnknownOption);
-        }
-        Ok(self)
     }
 
     // The options with one word more of the command line.
+    // Kept as it is: the new form is no plainer. `env::args` hands out its words one by one, which this step takes in a `try_fold`; a reader
+    // of slices would need them all held first.
     pub fn with_word(mut self, word: &[u8]) -> Result<Options, OptionFault>
         ensures { result ≡ with_word_lem self word.now }
     {
-        match self.due {
-            Due::Option => return self.option(word),
-            Due::Register => self.kind = kind_of(word)?,
-            Due::Cap => {
+        match self.due.take() {
+            None => match flag_of(word)? {
+                Flag::Wants(due) => self.due = Some(due),
+                Flag::Help => self.help = true,
+            },
+            Some(Due::Register) => self.register = RegisterKind::try_from(word)?,
+            Some(Due::Rule) => self.rule = RuleKind::try_from(word)?,
+            Some(Due::Cap) => {
                 let (asset, amount) = cap_of(word)?;
                 self.caps[asset as usize] = amount;
             }
         }
-        self.due = Due::Option;
         Ok(self)
     }
 
@@ -120,8 +174,8 @@ impl Options {
         ensures { result ≡ complete self }
     {
         match self.due {
-            Due::Option => Ok(self),
-            _ => Err(OptionFault::ValueMissing),
+            None => Ok(self),
+            Some(_) => Err(OptionFault::ValueMissing),
         }
     }
 }

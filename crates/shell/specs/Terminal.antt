@@ -1,13 +1,14 @@
 -- The obligation and the rule tests on plain numbers, as a C program states them: a side is 0 for buy and 1 for sell, and a price of 0
 -- means none.
 use Rattle.std.specs.Prelude.{◌&&◌}
-use Rattle.rules.specs.Words.{ℕ, Bool, cond, not, leb, eqb, Option, Some, None}
+use Rattle.rules.specs.Words.{ℕ, Bool, true, false, cond, not, leb, eqb, Option, Some, None, Result, Ok, Err}
 use Rattle.rules.specs.declared.bid.Side.{Side}
 use Rattle.rules.specs.declared.bid.Side.TheVariants.{Buy, Sell}
 use Rattle.rules.specs.declared.bid.Question.{Question}
 use Rattle.rules.specs.Bids.{most_price, is_lots_lem, obligation_of}
 use Rattle.rules.specs.Rules.{Rule, verdict_number}
 use Rattle.shell.specs.declared.Numbers.{Numbers}
+use Rattle.shell.specs.declared.BeyondLimits.{BeyondLimits}
 
 abbrev pub side_of : ℕ → Side
 side_of n = cond (eqb n 0) Buy Sell
@@ -40,6 +41,11 @@ question_of n = record {
   settlement = price_of_lem n.settlement;
   opposite = not (eqb n.opposite 0);
 }
+
+-- what numbers state, where they are within the limits
+abbrev pub stated : {A : Type 0} → Bool → A → Result A BeyondLimits
+stated true x = Ok x
+stated false x = Err (record {})
 
 -- a test's answer to numbers that state no question
 abbrev pub beyond_limits_lem : ℕ

@@ -1,15 +1,18 @@
 // The obligation and the rule tests as functions on plain numbers, for the terminal's C shell. They take any numbers: a C caller is held
-// to nothing.
+// to nothing. Kept as plain numbers and as a function for each rule: C knows neither Rattle's enums nor its type parameters.
 #![tactic(auto)]
 
-ghost use Rattle.std.specs.Prelude.{◌≡◌, ◌≤◌, length};
-ghost use Rattle.rules.specs.Bids.{most_price};
+ghost use Rattle.std.specs.Prelude.{◌≡◌, length};
+ghost use Rattle.rules.specs.Words.{leb};
+ghost use Rattle.rules.specs.Bids.{is_lots_lem};
 ghost use Rattle.rules.specs.Figures.{Hold};
 ghost use Rattle.rules.specs.Rules.{corporate, government};
 ghost use Rattle.shell.specs.Figures.{shell_figures};
-ghost use Rattle.shell.specs.Terminal.{is_price_or_none_lem, is_bid_lem, is_question_lem, side_of, price_of_lem, tested, obligation_number, numbers};
+ghost use Rattle.shell.specs.Terminal.{stated, is_price_or_none_lem, is_bid_lem, is_question_lem, side_of, price_of_lem, question_of, tested, obligation_number, numbers};
 
-use rules::{Corporate, Government, MOST_PRICE, MarketRule, Question, Side, is_lots, obligation};
+use rules::{
+    Corporate, Government, MOST_PRICE, MarketRule, Question, Side, check, is_lots, obligation,
+};
 
 // A question to a rule in plain numbers, as a C program states it: side 0 is buy and 1 sell, and a price of 0 means none.
 #[derive(Clone, Copy)]
@@ -23,67 +26,74 @@ struct Numbers {
     opposite: u64,
 }
 
-// What a test answers to numbers that state no question.
-const BEYOND_LIMITS: u64 = 6;
+// Numbers that state no bid, or no question.
+#[derive(Clone, Copy, PartialEq, Eq, Debug)]
+struct BeyondLimits;
 
-fn is_price_or_none(number: u64) -> bool
-    ensures { result ≡ is_price_or_none_lem number }
-{
-    number <= MOST_PRICE
+impl BeyondLimits {
+    // What a test answers to them.
+    const NUMBER: u64 = 6;
 }
 
-fn is_bid(side: u64, price: u64, lots: u64) -> bool
-    ensures { result ≡ is_bid_lem side price lots }
+fn side_of(number: u64) -> Result<Side, BeyondLimits>
+    ensures { result ≡ stated (leb number 1) (side_of number) }
 {
-    side <= 1 && is_price_or_none(price) && is_lots(lots)
-}
-
-fn side_of(number: u64) -> Side
-    ensures { result ≡ side_of number }
-{
-    if number == 0 { Side::Buy } else { Side::Sell }
-}
-
-fn price_of(number: u64) -> Option<u32>
-    requires { number ≤ most_price }
-    ensures { result ≡ price_of_lem number }
-{
-    if number == 0 {
-        None
-    } else {
-        Some(number as u32)
+    match number {
+        0 => Ok(Side::Buy),
+        1 => Ok(Side::Sell),
+        _ => Err(BeyondLimits),
     }
 }
 
-fn is_question(numbers: Numbers) -> bool
-    ensures { result ≡ is_question_lem numbers }
+fn price_of(number: u64) -> Result<Option<u32>, BeyondLimits>
+    ensures { result ≡ stated (is_price_or_none_lem number) (price_of_lem number) }
 {
-    is_bid(numbers.side, numbers.price, numbers.lots)
-        && is_price_or_none(numbers.best_buy)
-        && is_price_or_none(numbers.best_sell)
-        && is_price_or_none(numbers.settlement)
+    check(number <= MOST_PRICE, BeyondLimits)?;
+    Ok((number != 0).then_some(number as u32))
+}
+
+fn lots_of(number: u64) -> Result<u32, BeyondLimits>
+    ensures { result ≡ stated (is_lots_lem number) number }
+{
+    check(is_lots(number), BeyondLimits)?;
+    Ok(number as u32)
+}
+
+impl TryFrom<Numbers> for Question {
+    type Error = BeyondLimits;
+
+    ghost try_from_gives = { λ n r. r ≡ stated (is_question_lem n) (question_of n) };
+
+    fn try_from(asked: Numbers) -> Result<Question, BeyondLimits> {
+        Ok(Question {
+            side: side_of(asked.side)?,
+            price: price_of(asked.price)?,
+            lots: lots_of(asked.lots)?,
+            best_buy: price_of(asked.best_buy)?,
+            best_sell: price_of(asked.best_sell)?,
+            settlement: price_of(asked.settlement)?,
+            opposite: asked.opposite != 0,
+        })
+    }
 }
 
 // The test of any rule.
 fn test<M: MarketRule>(rule: &M, asked: Numbers) -> u64
     ensures { result ≡ tested (M.MarketRule.means rule.now) asked }
 {
-    if !is_question(asked) {
-        return BEYOND_LIMITS;
+    match Question::try_from(asked) {
+        Err(BeyondLimits) => BeyondLimits::NUMBER,
+        Ok(question) => match rule.on_bid(question) {
+            Ok(()) => 0,
+            Err(refusal) => u64::from(refusal.number()),
+        },
     }
-    let question = Question {
-        side: side_of(asked.side),
-        price: price_of(asked.price),
-        lots: asked.lots as u32,
-        best_buy: price_of(asked.best_buy),
-        best_sell: price_of(asked.best_sell),
-        settlement: price_of(asked.settlement),
-        opposite: asked.opposite != 0,
-    };
-    match rule.on_bid(question) {
-        Ok(()) => 0,
-        Err(refusal) => u64::from(refusal.number()),
-    }
+}
+
+fn obligation_by_numbers(side: u64, price: u64, lots: u64) -> Result<u64, BeyondLimits>
+    ensures { result ≡ stated (is_bid_lem side price lots) (obligation_number side price lots) }
+{
+    Ok(obligation(side_of(side)?, price_of(price)?, lots_of(lots)?))
 }
 
 // What a bid obliges its holder to; 0 for an unpriced buy, and for numbers that state no bid.
@@ -91,11 +101,7 @@ fn test<M: MarketRule>(rule: &M, asked: Numbers) -> u64
 pub extern "C" fn bid_obligation(side: u64, price: u64, lots: u64) -> u64
     ensures { result ≡ obligation_number side price lots }
 {
-    if is_bid(side, price, lots) {
-        obligation(side_of(side), price_of(price), lots as u32)
-    } else {
-        0
-    }
+    obligation_by_numbers(side, price, lots).unwrap_or(0)
 }
 
 // The corporate rule's test of a bid: 0 if it is admitted, 6 for numbers beyond the limits, else the refusal's number.

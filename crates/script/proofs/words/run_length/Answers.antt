@@ -1,19 +1,11 @@
-use Rattle.std.proofs.Common.{sym, arith}
-use Rattle.std.proofs.lemmas.List.Sums.{prefix_len-drop_yes, prefix_len-drop_no, prefix_len-drop_all}
-use Rattle.script.specs.Lines.{in_class}
+use Rattle.std.proofs.Common.{not, rules, tests}
+use Rattle.std.proofs.lemmas.Iterator.{YieldsList-from_slice}
+use Rattle.std.proofs.lemmas.Iterator.Search.{position_from_yields_List}
+use Rattle.script.proofs.Cut.{run_found}
 use Rattle.script.proofs.words.run_length.Goals as goal
 
-pub loop-n-preserved : goal.loop-n-preserved
-loop-n-preserved c =
-    let s = prefix_len-drop_yes (in_class c.args.class) c.args.text.now c.loop-n.n 0 c.loop-n-test.true (sym c.if-has.ensures) in
-    (omega arith, omega (arith, s, c.loop-n.invariant.1))
-
-pub returns-else-has : goal.returns-else-has
-returns-else-has c =
-    let s = prefix_len-drop_no (in_class c.args.class) c.args.text.now c.loop-n.n 0 c.loop-n-test.true (sym c.if-has.ensures) in
-    record { run = omega (arith, s, c.loop-n.invariant.1); within = c.loop-n.invariant.0 }
-
-pub returns-after-loop-n : goal.returns-after-loop-n
-returns-after-loop-n c =
-    let s = prefix_len-drop_all (in_class c.args.class) c.args.text.now c.loop-n.n c.loop-n-test.false in
-    record { run = omega (arith, s, c.loop-n.invariant.1); within = c.loop-n.invariant.0 }
+pub returns-clause-run : goal.returns-clause-run
+returns-clause-run g c p h =
+    run_found p c.args.text.now _ _
+    (position_from_yields_List (λ b. not (p b)) _ _ c.position.result c.position.ensures.ran (YieldsList-from_slice _ c.iter.ensures.rest) (λ x b q k. search (rules, tests, h)))
+    c.unwrap_or.ensures

@@ -1,5 +1,5 @@
-use Rattle.floor.proofs.Filed.{filed}
+use Rattle.queues.proofs.Filed.{filed}
 use Rattle.floor.proofs.desk.Desk.book.Goals as goal
 
 pub returns : goal.returns
-returns c = let desk = c.args.self.now in filed desk.books c.args.ticker _ desk.eight c.requires
+returns c = filed c.args.self.now.books c.args.ticker _ c.args.self.now.eight c.requires

@@ -1,26 +1,16 @@
 use Rattle.std.proofs.Common.{true, false}
-use Rattle.register.specs.Moves.{Withdraw, granted}
-use Rattle.layers.specs.Splitting.{whole-answer, whole-after}
+use Rattle.register.specs.Moves.{Withdraw}
+use Rattle.layers.specs.Splitting.{whole-after}
 use Rattle.layers.proofs.splits.SplitRegister.withdraw.Goals as goal
 
-pub returns-then-in_first : goal.returns-then-in_first
-returns-then-in_first g c =
+pub returns-then-in_first-clause-after : goal.returns-then-in_first-clause-after
+returns-then-in_first-clause-after g c =
     let p = g.P.Register.means c.args.self.now.first in
     let q = g.Q.Register.means c.args.self.now.second in
-    let m = Withdraw c.args.holder c.args.asset c.args.amount in
-    let kept = c.if-in_first.ensures in
-    record {
-      answer = whole-answer true p q m kept (λ r. granted r tt) _ c.withdraw.ensures.answer;
-      after = whole-after true p q m kept _ c.withdraw.ensures.after;
-    }
+    whole-after true p q (Withdraw c.args.holder c.args.asset c.args.amount) c.if-in_first.ensures _ c.withdraw.ensures.after
 
-pub returns-else-in_first : goal.returns-else-in_first
-returns-else-in_first g c =
+pub returns-else-in_first-clause-after : goal.returns-else-in_first-clause-after
+returns-else-in_first-clause-after g c =
     let p = g.P.Register.means c.args.self.now.first in
     let q = g.Q.Register.means c.args.self.now.second in
-    let m = Withdraw c.args.holder c.args.asset c.args.amount in
-    let kept = c.if-in_first.ensures in
-    record {
-      answer = whole-answer false q p m kept (λ r. granted r tt) _ c.withdraw-else-in_first.ensures.answer;
-      after = whole-after false q p m kept _ c.withdraw-else-in_first.ensures.after;
-    }
+    whole-after false q p (Withdraw c.args.holder c.args.asset c.args.amount) c.if-in_first.ensures _ c.withdraw-else-in_first.ensures.after

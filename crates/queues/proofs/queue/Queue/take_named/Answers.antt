@@ -1,22 +1,23 @@
-use Rattle.std.proofs.Common.{◌∙◌}
-use Rattle.queues.specs.Entries.{entries}
-use Rattle.queues.proofs.Named.{found_within, taken-named, left-named, none-taken}
+use Rattle.std.proofs.Common.{◌∙◌, rules}
+use Rattle.queues.proofs.Named.{found_within, got-named, left-named, none-taken}
 use Rattle.queues.proofs.queue.Queue.take_named.Goals as goal
 
-pub remove-requires : goal.remove-requires
-remove-requires c = found_within c.args.holder c.args.number (entries c.args.self.now) c.in-Some.place c.in-Some.ensures
+pub returns-in_err-place-clause-taken : goal.returns-in_err-place-clause-taken
+returns-in_err-place-clause-taken c =
+    let e = none-taken c.args.holder c.args.number c.args.self.now.bids.items c.in_err-place.ensures in
+    search rules
 
-pub returns-in-Some : goal.returns-in-Some
-returns-in-Some c =
-    let a = c.args in
-    let q = entries a.self.now in
-    record {
-      taken = taken-named a.holder a.number q c.in-Some.place c.remove.result c.in-Some.ensures c.remove.ensures.taken;
-      left = c.remove.ensures.left ∙ left-named a.holder a.number q c.in-Some.place c.in-Some.ensures;
-    }
+pub returns-in_err-place-clause-left : goal.returns-in_err-place-clause-left
+returns-in_err-place-clause-left c = (none-taken c.args.holder c.args.number c.args.self.now.bids.items c.in_err-place.ensures).1
 
-pub returns-in-None : goal.returns-in-None
-returns-in-None c =
+pub returns-clause-taken : goal.returns-clause-taken
+returns-clause-taken c = c.pop_at.ensures.value ∙ got-named c.args.holder c.args.number c.args.self.now.bids.items c.in_ok-place.place c.in_ok-place.ensures
+
+pub returns-clause-left : goal.returns-clause-left
+returns-clause-left c =
     let a = c.args in
-    let e = none-taken a.holder a.number (entries a.self.now) c.in-None.ensures in
-    record { taken = e.0; left = e.1 }
+    let xs = a.self.now.bids.items in
+    let i = c.in_ok-place.place in
+    let inside = found_within a.holder a.number xs i c.in_ok-place.ensures in
+    let left = left-named a.holder a.number xs i c.in_ok-place.ensures in
+    search rules

@@ -1,26 +1,27 @@
-use Rattle.std.proofs.Common.{Option, sym, ap, ◌∙◌, rules}
-use Rattle.register.specs.declared.faults.RegisterFault.{RegisterFault}
-use Rattle.register.specs.declared.faults.RegisterCause.TheVariants.{TooLittleBlocked}
-use Rattle.register.specs.Moves.{fault, granted}
-use Rattle.registers.proofs.Moved.{covered, account-known, small, release-made}
+use Rattle.std.proofs.Common.{◌∙◌, ap, rules}
+use Rattle.registers.specs.declared.balances.Balance.{Balance}
+use Rattle.registers.proofs.Moved.{account_is, moved_at, had-blocked, small, release-made}
+use Rattle.register.specs.Moves.{Release, after_move}
 use Rattle.registers.proofs.bottom.Bottom.free_again.Goals as goal
 
-pub overflow_add-free : goal.overflow_add-free
-overflow_add-free g c =
+pub overflow_add-after : goal.overflow_add-after
+overflow_add-after g c =
     let b = g.A.Accounts.book c.args.self.now.accounts in
-    let h = c.args.holder in
-    let a = c.args.asset in
-    let n = c.args.amount in
-    let k = account-known h a _ c.in_ok-check_account.ensures in
+    let account = c.in_ok-account.account in
+    let h = account.holder in
+    let a = account.asset in
+    let k = account_is account in
+    let had = had-blocked b h a c.args.amount c.in_ok-free.field-0 _ c.in_ok-free.ensures in
+    let is = ap (λ (v : Balance). v.free) had.0 in
     let s = small b h a k (g.met.A.Accounts.bounded c.args.self.now.accounts) in
     search rules
 
-pub returns : goal.returns
-returns g c =
+pub returns-clause-after : goal.returns-clause-after
+returns-clause-after g c =
     let b = g.A.Accounts.book c.args.self.now.accounts in
-    let h = c.args.holder in
-    let a = c.args.asset in
-    let n = c.args.amount in
-    let k = account-known h a _ c.in_ok-check_account.ensures in
-    let m = release-made b h a n c.balance-free.result k c.balance-free.ensures (covered n c.balance-free.result.blocked (fault TooLittleBlocked h a 0) c.in_ok-check_blocked.field-0 c.in_ok-check_blocked.ensures) in
-    record { answer = ap (λ (r : Option RegisterFault). granted r tt) (sym m.none); after = c.put.ensures ∙ m.after }
+    let account = c.in_ok-account.account in
+    let h = account.holder in
+    let a = account.asset in
+    let k = account_is account in
+    let had = had-blocked b h a c.args.amount c.in_ok-free.field-0 _ c.in_ok-free.ensures in
+    c.put.ensures ∙ (release-made b h a c.args.amount c.in_ok-free.field-0 k had.0 had.1).after ∙ moved_at (λ x y. after_move b (Release x y c.args.amount)) c.in_ok-account.ensures.0 c.in_ok-account.ensures.1

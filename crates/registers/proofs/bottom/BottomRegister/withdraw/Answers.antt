@@ -1,17 +1,15 @@
-use Rattle.std.proofs.Common.{Option, sym, ap, ◌∙◌}
-use Rattle.register.specs.declared.faults.RegisterFault.{RegisterFault}
-use Rattle.register.specs.declared.faults.RegisterCause.TheVariants.{TooLittleFree}
-use Rattle.register.specs.Moves.{fault, granted}
-use Rattle.registers.proofs.Moved.{covered, account-known, amount-lawful, withdraw-made}
+use Rattle.std.proofs.Common.{◌∙◌}
+use Rattle.registers.proofs.Moved.{account_is, moved_at, amount-lawful, had-free, withdraw-made}
+use Rattle.register.specs.Moves.{Withdraw, after_move}
 use Rattle.registers.proofs.bottom.BottomRegister.withdraw.Goals as goal
 
-pub returns : goal.returns
-returns g c =
+pub returns-clause-after : goal.returns-clause-after
+returns-clause-after g c =
     let b = g.A.Accounts.book c.args.self.now.accounts in
-    let h = c.args.holder in
-    let a = c.args.asset in
-    let n = c.args.amount in
-    let k = account-known h a _ c.in_ok-check_account.ensures in
-    let l = amount-lawful h a n _ c.in_ok-check_amount.ensures in
-    let m = withdraw-made b h a n c.balance-free.result k c.balance-free.ensures l (covered n c.balance-free.result.free (fault TooLittleFree h a 0) c.in_ok-check_free.field-0 c.in_ok-check_free.ensures) in
-    record { answer = ap (λ (r : Option RegisterFault). granted r tt) (sym m.none); after = c.put.ensures ∙ m.after }
+    let account = c.in_ok-account.account in
+    let h = account.holder in
+    let a = account.asset in
+    let k = account_is account in
+    let had = had-free b h a c.args.amount c.in_ok-before.before _ c.in_ok-before.ensures in
+    let l = amount-lawful _ _ c.args.amount _ c.in_ok-check_amount.ensures in
+    c.put.ensures ∙ (withdraw-made b h a c.args.amount c.in_ok-before.before k had.0 l had.1).after ∙ moved_at (λ x y. after_move b (Withdraw x y c.args.amount)) c.in_ok-account.ensures.0 c.in_ok-account.ensures.1

@@ -1,8 +1,0 @@
-use Rattle.std.proofs.Common.{◌≡◌, drop}
-use Rattle.model.specs.Opening.{prices_of}
-use Rattle.auction.specs.Prices.{best_among_lem}
-use Rattle.auction.proofs.prices.best_among.Given as goal
-
--- what is left gives the best of all
-abbrev pub invariant-loop-bid : goal.invariant-loop-bid
-invariant-loop-bid l = best_among_lem l.buys l.sells l.best (prices_of (drop l.bid-index l.queue)) ≡ best_among_lem l.buys l.sells l.initial.best (prices_of l.queue)

@@ -1,0 +1,11 @@
+// What the calls of a floor work on.
+use crate::desk::Desk;
+use register::registers::Register;
+use rules::MarketRule;
+
+// A floor's register, its market rule and its desk. Between two calls they go together as a floor demands; within one they need not.
+pub(crate) struct State<R: Register, M: MarketRule> {
+    pub(crate) register: R,
+    pub(crate) rule: M,
+    pub(crate) desk: Desk,
+}

@@ -1,5 +1,0 @@
-use Rattle.queues.proofs.Filed.{filed}
-use Rattle.floor_calls.proofs.desk.Desk.book.Goals as goal
-
-pub returns : goal.returns
-returns c = filed c.args.self.now.books c.args.ticker _ c.requires.eight c.requires.known

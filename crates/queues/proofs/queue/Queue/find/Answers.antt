@@ -1,0 +1,12 @@
+use Rattle.std.proofs.Common.{◌∙◌, rules, tests}
+use Rattle.std.proofs.lemmas.Iterator.{YieldsList-from_slice}
+use Rattle.std.proofs.lemmas.Iterator.Search.{position_from_yields_List}
+use Rattle.model.specs.Queues.{named}
+use Rattle.ranking.proofs.Places.{position-first}
+use Rattle.queues.proofs.queue.Queue.find.Goals as goal
+
+pub returns : goal.returns
+returns c =
+    let test = named c.args.holder c.args.number in
+    let xs = c.args.self.now.bids.items in
+    position_from_yields_List test _ _ _ c.position.ensures.ran (YieldsList-from_slice xs cc) (λ x b q k. search (rules, tests)) ∙ position-first test xs

@@ -1,4 +1,0 @@
-pub mod Cut
-pub mod Digits
-pub mod Picked
-pub mod Quotes

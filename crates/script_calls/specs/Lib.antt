@@ -1,6 +1,0 @@
-pub mod Lines
-pub mod Reading
-pub mod Bids
-pub mod Listings
-pub mod Commands
-pub mod Options
