@@ -6,11 +6,11 @@ ghost use Rattle.queues.specs.Sheets.{sheet_of};
 ghost use Rattle.auction.specs.Pairs.{pair_of, pair_deal, next_deal, trade_in, deal_moves, traded_on, after_trade, SumsHeld};
 
 use crate::volumes::reaches;
+use matching::closing::slip_of;
 use matching::settling::settle;
 use model::words::{Standing, Trade};
 use queues::books::TickerBook;
 use register::registers::Register;
-use register::slips::Slip;
 use rules::Side;
 
 // The opening of a ticker: which it is, the currency that it is paid in, and the price of its trades.
@@ -51,9 +51,14 @@ impl Auction {
         ensures book { R.Register.means register.new ≡ moved_all (settlement self.now.currency (pair_deal self.now.ticker self.now.price buy sell)) (R.Register.means register.old) }
     {
         let lots = buy.lots.min(sell.lots);
-        let cash = Slip::new(buy.holder, self.currency, buy.price as u64 * lots as u64);
-        let goods = Slip::new(sell.holder, self.ticker, lots as u64);
-        settle(register, cash, goods, self.price as u64 * lots as u64);
+        let cash = slip_of(Standing { lots, ..buy }, Side::Buy, self.currency);
+        let goods = slip_of(Standing { lots, ..sell }, Side::Sell, self.ticker);
+        settle(
+            register,
+            cash,
+            goods,
+            u64::from(self.price) * u64::from(lots),
+        );
         Trade {
             ticker: self.ticker,
             buyer: buy.holder,

@@ -14,7 +14,8 @@ use rules::Side;
 
 impl Auction {
     // Trades as long as the best remaining buy and the best remaining sell both reach the price. The trades are written to the front of
-    // the strip; answers how many there are.
+    // the strip; answers how many there are. Kept as a strip and a count, here and for tickers together: no plainer as a struct, which each
+    // caller would make of the strip that it is lent and take apart again.
     fn run<R: Register>(
         &self,
         register: &mut R,

@@ -9,7 +9,8 @@ use model::words::Standing;
 use rules::Side;
 
 // The lots of the first `place` bids of a queue together; of all where it has no more. A queue has at most 64 bids, so it calls
-// itself at most 64 deep.
+// itself at most 64 deep. Kept as a call of itself by a rule of this project, which wants a recursion on the queue here; its promise is of
+// the sum alone.
 pub fn lots_to(bids: &[Standing], place: usize) -> u64
     requires { length bids.now ≤ 64 }
     ensures lots { result ≡ sum_of (λ x. x.lots) (take place bids.now) }
@@ -21,7 +22,7 @@ pub fn lots_to(bids: &[Standing], place: usize) -> u64
     if bids.is_empty() {
         return 0;
     }
-    bids[0].lots as u64 + lots_to(&bids[1..], place - 1)
+    u64::from(bids[0].lots) + lots_to(&bids[1..], place - 1)
 }
 
 // Whether a bid would trade at this price: a buy priced at or above it, a sell at or below it.

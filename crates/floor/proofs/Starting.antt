@@ -1,9 +1,10 @@
 -- The start of a day: its checks, and what it finds. Assumes nothing.
-use Rattle.std.proofs.Common.{◌≡◌, ℕ, ◌+◌, ◌<◌, Bool, true, false, ◌&&◌, eqb, List, [], ◌∷◌, Some, None, sym, refl, ap, arith}
-use Rattle.std.specs.List.{list_all}
+use Rattle.std.proofs.Common.{◌≡◌, ℕ, ◌+◌, Bool, true, false, ◌&&◌, eqb, List, [], ◌∷◌, sum_by, Some, None, sym, refl, ap, ◌∙◌, arith}
+use Rattle.std.specs.List.{list_all, range_with_len}
 use Rattle.std.proofs.lemmas.Bool.Decides.{nat_tests}
+use Rattle.std.proofs.lemmas.List.Sums.{sum_by-cons}
 use Rattle.register.specs.Books.{sum_to}
-use Rattle.register.proofs.Sums.{part-sum_to, sum_to-more}
+use Rattle.register.proofs.Sums.{sum_to-range}
 use Rattle.rules.specs.Rules.{Rule}
 use Rattle.model.specs.declared.words.Listing.{Listing}
 use Rattle.model.specs.declared.calls.Call.TheVariants.{Start}
@@ -20,16 +21,16 @@ pub all-same : {X : Type 0} (p : X → Bool) (xs : List X) → list_all p xs ≡
 all-same p [] = refl
 all-same p (x ∷ xs) = ap (λ (b : Bool). p x && b) (all-same p xs)
 
--- ---- sums that are 0
-pub sum-none : (f : ℕ → ℕ) → sum_to 0 f ≡ 0
-unfolding sum_to
-sum-none f = refl
+-- ---- a sum is 0 where each of its parts is
+both-none : (m n : ℕ) (b : Bool) → b ≡ eqb n 0 → (eqb m 0 && b) ≡ eqb (m + n) 0
+both-none m n b e = grind (arith, nat_tests)
 
-pub sum_more : (i : ℕ) (f : ℕ → ℕ) → sum_to i f ≡ 0 → f i ≡ 0 → sum_to (i + 1) f ≡ 0
-sum_more i f a b = let e = sum_to-more i f in omega arith
+each-none : (f : ℕ → ℕ) (xs : List ℕ) → list_all (λ k. eqb (f k) 0) xs ≡ eqb (sum_by f xs) 0
+each-none f [] = refl
+each-none f (x ∷ xs) = both-none (f x) (sum_by f xs) _ (each-none f xs) ∙ ap (λ n. eqb n 0) (sym (sum_by-cons f x xs))
 
-pub sum-some : (n i : ℕ) (f : ℕ → ℕ) → i < n → 0 < f i → eqb (sum_to n f) 0 ≡ false
-sum-some n i f h l = let p = part-sum_to n f i h in grind (arith, nat_tests)
+pub none-below : (n : ℕ) (f : ℕ → ℕ) → list_all (λ k. eqb (f k) 0) (range_with_len 0 n) ≡ eqb (sum_to n f) 0
+none-below n f = each-none f (range_with_len 0 n) ∙ ap (λ m. eqb m 0) (sym (sum_to-range n f))
 
 -- ---- the checks
 module _ (r : Rule) (w : World) (l : Listing) where

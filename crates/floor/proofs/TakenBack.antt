@@ -1,6 +1,7 @@
 -- The bid that a cancellation names. Assumes nothing but that no number stands twice.
-use Rattle.std.proofs.Common.{◌≡◌, ℕ, ◌+◌, ◌≤◌, Bool, true, false, cond, not, ◌&&◌, ◌||◌, eqb, ◌⊎◌, List, [], ◌∷◌, ◌++◌, map, Some, None, Option, sym, refl, ap, ◌∙◌, subst, inl, inr, arith}
+use Rattle.std.proofs.Common.{◌≡◌, ℕ, ◌+◌, ◌≤◌, Bool, true, false, cond, not, ◌&&◌, ◌||◌, eqb, ◌⊎◌, List, [], ◌∷◌, ◌++◌, map, Some, None, Option, Err, sym, refl, ap, ◌∙◌, subst, inl, inr, arith}
 use mathlib.Core.Path.{fun_ext}
+use Rattle.std.specs.Option.{ok_or}
 use Rattle.std.proofs.lemmas.Bool.Decides.{nat_tests}
 use Rattle.std.proofs.lemmas.Bool.{cond-true, cond-false, cases_Bool, eqb-true}
 use Rattle.register.specs.Books.{holder_known_lem}
@@ -219,3 +220,8 @@ pub freeing-is : (l : Listing) (t : ℕ) (side : Side) (x : Standing) (asset : �
     → s ≡ record { holder = x.holder; asset = asset; amount = obligation_of side (Some x.price) x.lots } → Release s.holder s.asset s.amount ≡ freeing l t side x
 freeing-is l t side x asset s ea es =
     (λ i. Release (es i).holder (es i).asset (es i).amount) ∙ (λ i. Release x.holder (ea i) (obligation_of side (Some x.price) x.lots))
+
+-- where nothing is named, the fault is the one that stands for it
+pub nothing-named : {X E : Type 0} (x : Option X) (e f : E) → Err e ≡ ok_or x f → (x ≡ None) × (e ≡ f)
+nothing-named None e f q = (refl, cc)
+nothing-named (Some y) e f q = absurd (let no : ◌≡◌ {A = ℕ} 0 1 = cc in omega arith)

@@ -10,6 +10,10 @@ use Rattle.model.specs.Calls.{answer, after, trades}
 use Rattle.floor.specs.declared.state.State.{State}
 use Rattle.floor.specs.Floors.{seen}
 
+-- a strip with these trades written to its front
+abbrev pub written : List Trade → List Trade → List Trade
+written ts strip = ts ++ drop (length ts) strip
+
 -- what a call leaves of a floor: this world, and the rule as it was
 pub record Leaves {R M : Type 0} (means : R → Book) (floor floor' : State R M) (w : World) : Type 0 where
   pub world : seen means floor' ≡ w
@@ -19,7 +23,7 @@ pub record Leaves {R M : Type 0} (means : R → Book) (floor floor' : State R M)
 pub record Made {R M : Type 0} (means : R → Book) (rule : M → Rule) (c : Call) (floor floor' : State R M) (strip strip' : List Trade) (a : Answer) : Type 0 where
   pub answers : a ≡ answer (rule floor.rule) (seen means floor) c
   pub world : seen means floor' ≡ after (rule floor.rule) (seen means floor) c
-  pub written : strip' ≡ trades (rule floor.rule) (seen means floor) c ++ drop (length (trades (rule floor.rule) (seen means floor) c)) strip
+  pub written : strip' ≡ written (trades (rule floor.rule) (seen means floor) c) strip
   pub kept : floor'.rule ≡ floor.rule
 
 -- a call whose trades stand on a tape behind those before it

@@ -8,7 +8,8 @@ mod admitting;
 pub(crate) mod asking;
 pub(crate) mod filing;
 
-// `given` counts the registration numbers of the day; the books are those of the tickers 4 to 11.
+// `given` counts the registration numbers of the day; the books are those of the tickers 4 to 11. Kept beside the listing, which has a
+// line for each of the same tickers: it comes whole at the start of a day and is only read, and the books change with each bid.
 #[derive(Drop)]
 pub struct Desk {
     pub session: Session,

@@ -8,12 +8,9 @@ use model::faults::{CallKind, Cause, Fault};
 pub(crate) fn raise<T>(res: Result<T, Cause>, call: CallKind, ticker: u8) -> Result<T, Fault>
     ensures { result ≡ raised call ticker res }
 {
-    match res {
-        Ok(value) => Ok(value),
-        Err(cause) => Err(Fault {
-            cause,
-            call,
-            ticker,
-        }),
-    }
+    res.map_err(|cause| Fault {
+        cause,
+        call,
+        ticker,
+    })
 }

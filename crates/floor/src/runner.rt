@@ -32,8 +32,8 @@ fn no_pass(call: CallKind, ticker: u8) -> Answer
     })
 }
 
-// A bid that shows the pass of the session that it names, whatever the floor's own session is. Kept as a match, here and below: each pass
-// is of a type of its own.
+// A bid that shows the pass of the session that it names, whatever the floor's own session is. Kept as a match, here and below: calls of a
+// list go through the floor's own calls, which take a pass, and each pass is of a type of its own.
 fn place<R: Register, M: MarketRule>(
     floor: &mut Floor<R, M>,
     shown: Session,
@@ -160,7 +160,8 @@ pub fn count_of(answer: &Answer) -> usize
     }
 }
 
-// Makes a call with a strip cut from what is left of the tape: as long as the call asks for, or all that is left.
+// Makes a call with a strip cut from what is left of the tape: as long as the call asks for, or all that is left. Kept as a tape and the
+// records used of it: a slice of what is left would have to be lent anew for each call, and then none could say what stands in front of it.
 fn lend_call<R: Register, M: MarketRule>(
     floor: &mut Floor<R, M>,
     call: Call,
@@ -187,6 +188,8 @@ pub fn resume<R: Register, M: MarketRule>(
     ensures rule { floor.new.state.rule ≡ floor.old.state.rule }
     ensures law { (y : Tally) → Together (M.MarketRule.means floor.old.state.rule) (seen R.Register.means floor.old.state) y → GoesOn (M.MarketRule.means floor.old.state.rule) (seen R.Register.means floor.new.state) (tally_of y (recorded (take result calls.now) answers.new tape.new)) }
 {
+    // Kept as places counted up to a limit: with the calls zipped to the answers the proof did not close, since such a loop tells nothing of
+    // the answers that it has written.
     let limit = calls.len().min(answers.len());
     let mut used = 0;
     for (i, call) in calls[..limit].iter().enumerate() {

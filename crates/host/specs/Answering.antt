@@ -1,5 +1,5 @@
 -- What a line of input is answered, byte for byte, and what it leaves of a floor.
-use Rattle.std.specs.Prelude.{ℕ, zero, suc, List, [], ◌∷◌, ◌++◌, Some, None, Ok, Err, Option, Result}
+use Rattle.std.specs.Prelude.{◌≡◌, ℕ, String, string_bytes, OnOk, zero, suc, List, [], ◌∷◌, ◌++◌, Some, None, Ok, Err, Option, Result}
 use Rattle.std.specs.List.{flat_map}
 use Rattle.rules.specs.Rules.{Rule}
 use Rattle.register.specs.declared.faults.Account.{Account}
@@ -21,6 +21,10 @@ use Rattle.telling.specs.Replies.{call_line, entry_line, listed, average_line, s
 -- a line with its newline
 abbrev pub told : List ℕ → List ℕ
 told line = line ++ (10 ∷ [])
+
+-- where nothing fails, a text has grown by these bytes
+abbrev pub Adds : {E Z : Type 0} → Result (Unit {0}) E → String Z → String Z → List ℕ → Type 0
+Adds r before after bytes = OnOk r (string_bytes after ≡ string_bytes before ++ bytes)
 
 -- a line for each
 abbrev pub told_each : {X : Type 0} → (X → List ℕ) → List X → List ℕ

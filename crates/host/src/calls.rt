@@ -1,9 +1,9 @@
 // Calls of a floor, and what is told of them.
-ghost use Rattle.std.specs.Prelude.{◌≡◌, ◌≤◌, ◌++◌, length, take, string_bytes, OnOk};
+ghost use Rattle.std.specs.Prelude.{◌≡◌, ◌≤◌, length, take};
 ghost use Rattle.model.specs.Calls.{answer, after, trades};
 ghost use Rattle.floor.specs.Making.{Leaves};
 ghost use Rattle.floor.specs.Floors.{seen};
-ghost use Rattle.host.specs.Answering.{call_text_lem};
+ghost use Rattle.host.specs.Answering.{Adds, call_text_lem};
 
 use crate::tapes::Tape;
 use crate::texts::add_lines;
@@ -32,14 +32,15 @@ fn make_call<R: Register, M: MarketRule>(
     (answer, count_of(&answer))
 }
 
-// Makes a call, and tells its answer and its trades.
+// Makes a call, and tells its answer and its trades. Kept as parameters, here and for lines: a struct of the text, the floor and the tape
+// would borrow all three for each line, and each clause would name one of them again.
 pub(crate) fn tell_call<R: Register, M: MarketRule>(
     text: &mut String,
     floor: &mut Floor<R, M>,
     tape: &mut Tape,
     call: Call,
 ) -> Result<(), AllocError>
-    ensures text { OnOk result (string_bytes text.new ≡ string_bytes text.old ++ call_text_lem (M.MarketRule.means floor.old.state.rule) (seen R.Register.means floor.old.state) call) }
+    ensures text { Adds result text.old text.new (call_text_lem (M.MarketRule.means floor.old.state.rule) (seen R.Register.means floor.old.state) call) }
     ensures leaves { Leaves R.Register.means floor.old.state floor.new.state (after (M.MarketRule.means floor.old.state.rule) (seen R.Register.means floor.old.state) call) }
 {
     let (answer, count) = make_call(floor, call, tape);

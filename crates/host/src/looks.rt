@@ -1,8 +1,7 @@
 // Looks at a floor, and what is told of them.
-ghost use Rattle.std.specs.Prelude.{◌≡◌, ◌++◌, string_bytes, OnOk};
 ghost use Rattle.model.specs.Looks.{look_account, look_queue, look_average};
 ghost use Rattle.floor.specs.Floors.{seen};
-ghost use Rattle.host.specs.Answering.{read_text, queue_text, average_text, account_text, holder_text, accounts_text};
+ghost use Rattle.host.specs.Answering.{Adds, read_text, queue_text, average_text, account_text, holder_text, accounts_text};
 
 use crate::texts::add_lines;
 use floor::floors::Floor;
@@ -17,7 +16,7 @@ pub(crate) fn tell_read<R: Register, M: MarketRule>(
     holder: u8,
     asset: u8,
 ) -> Result<(), AllocError>
-    ensures { OnOk result (string_bytes text.new ≡ string_bytes text.old ++ read_text holder asset (look_account (seen R.Register.means floor.now.state) holder asset)) }
+    ensures { Adds result text.old text.new (read_text holder asset (look_account (seen R.Register.means floor.now.state) holder asset)) }
 {
     match floor.account(holder, asset) {
         Ok(account) => {
@@ -38,7 +37,7 @@ pub(crate) fn tell_queue<R: Register, M: MarketRule>(
     ticker: u8,
     side: Side,
 ) -> Result<(), AllocError>
-    ensures { OnOk result (string_bytes text.new ≡ string_bytes text.old ++ queue_text (look_queue (seen R.Register.means floor.now.state) ticker side)) }
+    ensures { Adds result text.old text.new (queue_text (look_queue (seen R.Register.means floor.now.state) ticker side)) }
 {
     match floor.queue(ticker, side) {
         Ok(bids) => add_lines(text, bids),
@@ -51,7 +50,7 @@ pub(crate) fn tell_average<R: Register, M: MarketRule>(
     floor: &Floor<R, M>,
     ticker: u8,
 ) -> Result<(), AllocError>
-    ensures { OnOk result (string_bytes text.new ≡ string_bytes text.old ++ average_text ticker (look_average (seen R.Register.means floor.now.state) ticker)) }
+    ensures { Adds result text.old text.new (average_text ticker (look_average (seen R.Register.means floor.now.state) ticker)) }
 {
     match floor.average(ticker) {
         Ok(average) => writeln!(text, "{}", AverageLine { ticker, average }),
@@ -66,7 +65,7 @@ fn list_account<R: Register, M: MarketRule>(
     holder: u8,
     asset: u8,
 ) -> Result<(), AllocError>
-    ensures { OnOk result (string_bytes text.new ≡ string_bytes text.old ++ account_text holder asset (look_account (seen R.Register.means floor.now.state) holder asset)) }
+    ensures { Adds result text.old text.new (account_text holder asset (look_account (seen R.Register.means floor.now.state) holder asset)) }
 {
     let Ok(account) = floor.account(holder, asset) else {
         return Ok(());
@@ -82,7 +81,7 @@ fn list_holder<R: Register, M: MarketRule>(
     floor: &Floor<R, M>,
     holder: u8,
 ) -> Result<(), AllocError>
-    ensures { OnOk result (string_bytes text.new ≡ string_bytes text.old ++ holder_text (seen R.Register.means floor.now.state) holder) }
+    ensures { Adds result text.old text.new (holder_text (seen R.Register.means floor.now.state) holder) }
 {
     for asset in 0..12 {
         list_account(text, floor, holder, asset)?;
@@ -95,7 +94,7 @@ pub(crate) fn list_accounts<R: Register, M: MarketRule>(
     text: &mut String,
     floor: &Floor<R, M>,
 ) -> Result<(), AllocError>
-    ensures { OnOk result (string_bytes text.new ≡ string_bytes text.old ++ accounts_text (seen R.Register.means floor.now.state)) }
+    ensures { Adds result text.old text.new (accounts_text (seen R.Register.means floor.now.state)) }
 {
     for holder in 0..16 {
         list_holder(text, floor, holder)?;

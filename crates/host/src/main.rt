@@ -53,16 +53,16 @@ const CAP_TAG: u32 = 1;
 // Answers are written out in blocks of about this many bytes.
 const BLOCK: usize = 65_536;
 
-// Reads the next line, without its newline, and answers whether there was one.
-fn read_line<B: BufRead>(input: &mut B, line: &mut Vec<u8>) -> io::Result<bool> {
+// Reads the next line, without its newline, where there is one.
+fn read_line<'a, B: BufRead>(input: &mut B, line: &'a mut Vec<u8>) -> io::Result<Option<&'a [u8]>> {
     line.clear();
     if input.read_until(b'\n', line)? == 0 {
-        return Ok(false);
+        return Ok(None);
     }
     if let Some(b'\n') = line.as_slice().last() {
         line.pop();
     }
-    Ok(true)
+    Ok(Some(line.as_slice()))
 }
 
 // Writes out what was told so far.
@@ -79,14 +79,14 @@ fn serve<R: Register, M: MarketRule>(rt: &HostRuntime, floor: &mut Floor<R, M>) 
     let mut line = Vec::new(heap);
     let mut text = String::new(heap);
     let mut tape = Tape::new();
-    for number in 1..u64::MAX {
+    for number in 1.. {
         if text.len() >= BLOCK || !input.buffer().contains(&b'\n') {
             write_out(rt, &mut text)?;
         }
-        if !read_line(&mut input, &mut line)? {
+        let Some(words) = read_line(&mut input, &mut line)? else {
             break;
-        }
-        reply(&mut text, floor, &mut tape, number, line.as_slice())?;
+        };
+        reply(&mut text, floor, &mut tape, number, words)?;
     }
     write_out(rt, &mut text)
 }

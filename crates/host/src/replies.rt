@@ -1,8 +1,7 @@
 // What each line of input is answered.
-ghost use Rattle.std.specs.Prelude.{◌≡◌, ◌++◌, string_bytes, OnOk};
 ghost use Rattle.floor.specs.Making.{Leaves};
 ghost use Rattle.floor.specs.Floors.{seen};
-ghost use Rattle.host.specs.Answering.{command_text, after_command, reply_text, after_line};
+ghost use Rattle.host.specs.Answering.{Adds, command_text, after_command, reply_text, after_line};
 
 use crate::calls::tell_call;
 use crate::looks::{list_accounts, tell_average, tell_queue, tell_read};
@@ -21,7 +20,7 @@ fn tell_command<R: Register, M: MarketRule>(
     tape: &mut Tape,
     command: Command,
 ) -> Result<(), AllocError>
-    ensures text { OnOk result (string_bytes text.new ≡ string_bytes text.old ++ command_text (M.MarketRule.means floor.old.state.rule) (seen R.Register.means floor.old.state) command) }
+    ensures text { Adds result text.old text.new (command_text (M.MarketRule.means floor.old.state.rule) (seen R.Register.means floor.old.state) command) }
     ensures leaves { Leaves R.Register.means floor.old.state floor.new.state (after_command (M.MarketRule.means floor.old.state.rule) (seen R.Register.means floor.old.state) command) }
 {
     match command {
@@ -42,7 +41,7 @@ pub(crate) fn reply<R: Register, M: MarketRule>(
     number: u64,
     line: &[u8],
 ) -> Result<(), AllocError>
-    ensures text { OnOk result (string_bytes text.new ≡ string_bytes text.old ++ reply_text (M.MarketRule.means floor.old.state.rule) (seen R.Register.means floor.old.state) number line.now) }
+    ensures text { Adds result text.old text.new (reply_text (M.MarketRule.means floor.old.state.rule) (seen R.Register.means floor.old.state) number line.now) }
     ensures leaves { Leaves R.Register.means floor.old.state floor.new.state (after_line (M.MarketRule.means floor.old.state.rule) (seen R.Register.means floor.old.state) line.now) }
 {
     match parse(line) {

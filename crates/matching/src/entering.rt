@@ -21,7 +21,7 @@ use crate::newcomers::Newcomer;
 use crate::settling::release;
 use model::words::{Session, Standing, Trade};
 use queues::books::TickerBook;
-use queues::queue::Queue;
+use queues::queue::{Queue, QueueFull};
 use queues::rankings::{Buys, ByNumber, Sells};
 use register::registers::Register;
 use register::slips::Slip;
@@ -104,16 +104,14 @@ fn put_ranked(queue: &mut Queue, session: Session, side: Side, bid: Standing)
     requires { length (entries queue.old) < 64 }
     ensures { entries queue.new ≡ insert_ranked (before session side) bid (entries queue.old) }
 {
-    match (session, side) {
-        (Session::PostTrading, _) => {
-            let _ = queue.put::<ByNumber>(bid);
-        }
-        (_, Side::Buy) => {
-            let _ = queue.put::<Buys>(bid);
-        }
-        (_, Side::Sell) => {
-            let _ = queue.put::<Sells>(bid);
-        }
+    let put = match (session, side) {
+        (Session::PostTrading, _) => queue.put::<ByNumber>(bid),
+        (_, Side::Buy) => queue.put::<Buys>(bid),
+        (_, Side::Sell) => queue.put::<Sells>(bid),
+    };
+    match put {
+        Ok(()) => {}
+        Err(QueueFull) => unreachable(),
     }
 }
 
@@ -132,7 +130,8 @@ fn lodge(book: &mut TickerBook, session: Session, newcomer: &Newcomer, lots: u32
     }
 }
 
-// The newcomer trades with the queue it faces, if it trades at all; answers the count of its trades.
+// The newcomer trades with the queue it faces, if it trades at all; answers the count of its trades. `trades` is the outlook's, kept as a
+// flag there.
 fn face<R: Register>(
     register: &mut R,
     book: &mut TickerBook,

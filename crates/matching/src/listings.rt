@@ -2,6 +2,7 @@
 ghost use Rattle.std.specs.Prelude.{◌≡◌, true};
 ghost use Rattle.model.specs.Market.{ticker_known};
 ghost use Rattle.model.specs.Listings.{quote_of, settlement_of, asset_of_lem};
+ghost use Rattle.matching.specs.Dealing.{asset_by};
 
 use model::words::{Listing, Quote};
 use rules::Side;
@@ -22,12 +23,19 @@ pub fn settlement_price(listing: &Listing, ticker: u8) -> Option<u32>
     (price != 0).then_some(price)
 }
 
-// What a bid on a ticker is paid with: a buy with the ticker's currency, a sell with the ticker itself.
+// What a bid is paid with: a buy with its ticker's currency, a sell with the ticker itself.
+pub fn paid_with(currency: u8, ticker: u8, side: Side) -> u8
+    ensures { result ≡ asset_by currency ticker side }
+{
+    match side {
+        Side::Buy => currency,
+        Side::Sell => ticker,
+    }
+}
+
+// What a bid on a ticker of the listing is paid with.
 pub fn asset_of(listing: &Listing, ticker: u8, side: Side) -> u8
     ensures { result ≡ asset_of_lem listing.now ticker side }
 {
-    match side {
-        Side::Buy => quote(listing, ticker).currency,
-        Side::Sell => ticker,
-    }
+    paid_with(quote(listing, ticker).currency, ticker, side)
 }

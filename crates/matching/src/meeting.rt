@@ -9,13 +9,14 @@ ghost use Rattle.matching.specs.Exchanges.{exchange_by};
 ghost use Rattle.matching.specs.Dealing.{mine_of, deal_with, used_of, met_by, first_deal};
 ghost use Rattle.matching.specs.Meetings.{Payable, Settles, Ready, trade_of, book_after, queue_after, amount_after, Swept};
 
+use crate::closing::slip_of;
 use crate::newcomers::Newcomer;
 use crate::settling::settle;
 use model::words::{Standing, Trade};
 use queues::queue::Queue;
 use register::registers::Register;
 use register::slips::Slip;
-use rules::{Side, obligation};
+use rules::Side;
 
 // What a newcomer would be left with, and what its trades would cost, if it met a queue.
 #[derive(Clone, Copy)]
@@ -68,11 +69,8 @@ fn settle_with<R: Register>(
 {
     let mine = slip.cut_off(newcomer.used(maker.price, lots));
     let facing = newcomer.bid.side.opposite();
-    let theirs = Slip::new(
-        maker.holder,
-        newcomer.asset_of(facing),
-        obligation(facing, Some(maker.price), lots),
-    );
+    let met = Standing { lots, ..maker };
+    let theirs = slip_of(met, facing, newcomer.asset_of(facing));
     let worth = u64::from(maker.price) * u64::from(lots);
     settle_by(register, newcomer.bid.side, mine, theirs, worth);
 }
@@ -91,9 +89,7 @@ fn meet_first<R: Register>(
     ensures queue { entries queue.new ≡ queue_after (entries queue.old) (first_deal newcomer.now left (entries queue.old)) }
     ensures slip { slip.new ≡ mine_of newcomer.now (amount_after newcomer.now slip.old.amount (first_deal newcomer.now left (entries queue.old))) }
 {
-    let Some(maker) = queue.first() else {
-        return None;
-    };
+    let maker = queue.first()?;
     if !newcomer.is_met(left, maker.price) {
         return None;
     }
@@ -105,7 +101,8 @@ fn meet_first<R: Register>(
 
 // Trades with the queue in its order, as long as the newcomer meets its first bid, and answers the count of the trades, which are
 // written to the front of the strip. Kept as parameters: a struct of the register, the slip and the newcomer would borrow all three for
-// one call, and its clauses would name each of them again.
+// one call, and its clauses would name each of them again. So is the count beside the strip, here and where a bid enters: each caller is
+// lent the strip, and would make a struct of it and take it apart again.
 pub fn meet_queue<R: Register>(
     register: &mut R,
     queue: &mut Queue,

@@ -3,8 +3,9 @@ ghost use Rattle.std.specs.Prelude.{◌≡◌};
 ghost use Rattle.model.specs.Matching.{crosses};
 ghost use Rattle.matching.specs.Dealing.{asset_by, mine_of, meets, deal_with, used_of};
 
+use crate::listings::paid_with;
 use model::words::{Bid, Standing, Trade};
-use rules::Side;
+use rules::{Side, obligation};
 
 // A bid with the number it would have, its limit, which is the price that it trades and blocks at, and its ticker's currency. Kept apart
 // from the session, which is the desk's: what a newcomer makes of a queue does not ask for it.
@@ -32,10 +33,7 @@ impl Newcomer {
     pub fn asset_of(&self, side: Side) -> u8
         ensures { result ≡ asset_by self.now.currency self.now.bid.ticker side }
     {
-        match side {
-            Side::Buy => self.currency,
-            Side::Sell => self.bid.ticker,
-        }
+        paid_with(self.currency, self.bid.ticker, side)
     }
 
     // Whether it trades with a bid that stands at this price, where it has so many lots left.
@@ -81,10 +79,6 @@ impl Newcomer {
     pub fn used(&self, price: u32, lots: u32) -> u64
         ensures { result ≡ used_of self.now price lots }
     {
-        match (self.bid.side, self.limit) {
-            (Side::Buy, Some(limit)) => u64::from(limit) * u64::from(lots),
-            (Side::Buy, None) => u64::from(price) * u64::from(lots),
-            (Side::Sell, _) => u64::from(lots),
-        }
+        obligation(self.bid.side, self.limit.or(Some(price)), lots)
     }
 }

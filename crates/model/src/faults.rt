@@ -147,7 +147,8 @@ impl fmt::Display for CallKind {
     }
 }
 
-// A refused call: the cause, which call it was, and the ticker as it was given, 0 where the call has none.
+// A refused call: the cause, which call it was, and the ticker as it was given, 0 where the call has none. Kept as a number: a refusal is
+// told with it, and an Option would be told with the same 0 for none and for a ticker 0 that was given.
 #[derive(Clone, Copy, PartialEq, Eq, Debug)]
 pub struct Fault {
     pub cause: Cause,

@@ -28,7 +28,8 @@ impl fmt::Display for Session {
 }
 
 // A bid as its holder states it. An entire bid is filled whole or not at all, any other is partial. A keep bid leaves its rest
-// standing where the session allows it, any other has its rest withdrawn.
+// standing where the session allows it, any other has its rest withdrawn. Kept as flags: no value stands beside them, and each is asked
+// for as it is.
 #[derive(Clone, Copy, PartialEq, Eq, Debug)]
 pub struct Bid {
     pub holder: u8,

@@ -1,5 +1,8 @@
 -- Sums of a function over the numbers below a bound.
-use Rattle.std.proofs.Common.{◌≡◌, ℕ, zero, suc, ◌+◌, ◌<◌, ◌≤◌, refl, ap, inl, inr, add-one, arith}
+use Rattle.std.proofs.Common.{◌≡◌, ℕ, zero, suc, ◌+◌, ◌<◌, ◌≤◌, map, sum_by, refl, ap, ◌∙◌, inl, inr, arith}
+use mathlib.Core.List.{map-id}
+use Rattle.std.specs.List.{range_with_len}
+use Rattle.std.proofs.lemmas.List.FromFn.{sum_by-map-range_with_len_more}
 use Rattle.std.proofs.lemmas.Bool.{cases_eq}
 use Rattle.register.specs.Books.{sum_to}
 
@@ -39,10 +42,6 @@ sum_to-one (suc n) f i h e =
       | inr ne ↦ omega (arith, sum_to-one n f i (omega arith) e, e n (omega arith))
     ]
 
-pub sum_to-more : (n : ℕ) (f : ℕ → ℕ) → sum_to (n + 1) f ≡ sum_to n f + f n
-unfolding sum_to
-sum_to-more n f = rw add-one refl
-
 -- a sum so far with its next part is within the whole
 pub sum_to-within : (m n : ℕ) (f : ℕ → ℕ) → n < m → sum_to n f + f n ≤ sum_to m f
 unfolding sum_to
@@ -52,3 +51,14 @@ sum_to-within (suc m) n f h =
       | inl e ↦ rw e (omega arith)
       | inr ne ↦ omega (arith, sum_to-within m n f (omega arith))
     ]
+
+-- the sum as that of a list of the numbers
+sum_to-numbers : (n : ℕ) (f : ℕ → ℕ) → sum_to n f ≡ sum_by f (map (λ k. k) (range_with_len 0 n))
+unfolding sum_to
+sum_to-numbers zero f = refl
+sum_to-numbers (suc n) f =
+    let next : n + 1 ≡ suc n = omega arith in
+    omega (arith, sum_to-numbers n f, sum_by-map-range_with_len_more f (λ k. k) 0 n n (omega arith), ap (λ m. sum_by f (map (λ k. k) (range_with_len 0 m))) next)
+
+pub sum_to-range : (n : ℕ) (f : ℕ → ℕ) → sum_to n f ≡ sum_by f (range_with_len 0 n)
+sum_to-range n f = sum_to-numbers n f ∙ ap (sum_by f) (map-id (range_with_len 0 n))

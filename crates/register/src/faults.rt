@@ -24,6 +24,7 @@ pub enum RegisterCause {
 }
 
 impl RegisterCause {
+    // Kept, here and for the refusals of the rules and the floor: a trait for the three would say no more than the cast.
     pub fn number(self) -> u8
         ensures { result ≡ cause_number self }
     {
@@ -47,7 +48,8 @@ impl fmt::Display for RegisterCause {
     }
 }
 
-// A refusal with its place. The tag names the cap layer that refuses; every other refusal has 0.
+// A refusal with its place. The tag names the cap layer that refuses; every other refusal has 0. Kept as a number: a refusal is told with
+// it, and with an Option a layer of tag 0 would be told as none is.
 #[derive(Clone, Copy, PartialEq, Eq, Debug)]
 pub struct RegisterFault {
     pub cause: RegisterCause,

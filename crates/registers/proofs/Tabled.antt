@@ -1,14 +1,13 @@
 -- A table of balances: one place written, the empty table, and what all holders have of an asset.
-use Rattle.std.proofs.Common.{◌≡◌, ℕ, zero, suc, ◌+◌, ◌*◌, ◌^◌, ◌<◌, ◌≤◌, cond, ◌&&◌, eqb, List, length, get_or, map, set, replicate, sum_by, sym, refl, ap, ◌∙◌, subst, arith, get_or-set_other, get_or-set_same}
+use Rattle.std.proofs.Common.{◌≡◌, ℕ, ◌+◌, ◌*◌, ◌^◌, ◌<◌, ◌≤◌, cond, ◌&&◌, eqb, List, length, get_or, set, replicate, sum_by, sym, refl, ap, ◌∙◌, subst, arith, get_or-set_other, get_or-set_same}
 use lib.ListN.{get_or-replicate, length-replicate}
-use mathlib.Core.List.{map-id}
 use Rattle.std.specs.List.{range_with_len}
 use Rattle.std.proofs.lemmas.List.{get_or_past}
-use Rattle.std.proofs.lemmas.List.FromFn.{get_or-range_with_len, sum_by-map-range_with_len_more}
+use Rattle.std.proofs.lemmas.List.FromFn.{get_or-range_with_len}
 use Rattle.std.proofs.lemmas.Bool.Decides.{nat_tests}
-use Rattle.register.specs.Books.{Book, sum_to, total, most_amount, empty_book}
+use Rattle.register.specs.Books.{Book, total, most_amount, empty_book}
 use Rattle.register.proofs.Accounts.{book-ext}
-use Rattle.register.proofs.Sums.{sum_to-none, part-sum_to}
+use Rattle.register.proofs.Sums.{sum_to-none, part-sum_to, sum_to-range}
 use Rattle.registers.specs.declared.balances.Balance.{Balance}
 use Rattle.registers.specs.Balances.{with_balance}
 use Rattle.registers.specs.Tables.{nothing, balance_at, table_book, Bounded}
@@ -37,20 +36,13 @@ pub empty-bounded : (m : ℕ) → Bounded (replicate m nothing)
 empty-bounded m a l =
     subst (λ (v : Book). total v a ≤ most_amount) (sym (empty-table m)) (omega (arith, sum_to-none 16 (λ h. empty_book.free h a + empty_book.blocked h a) (λ i h. refl)))
 
-sum_to-numbers : (n : ℕ) (f : ℕ → ℕ) → sum_to n f ≡ sum_by f (map (λ k. k) (range_with_len 0 n))
-unfolding sum_to
-sum_to-numbers zero f = refl
-sum_to-numbers (suc n) f =
-    let next : n + 1 ≡ suc n = omega arith in
-    omega (arith, sum_to-numbers n f, sum_by-map-range_with_len_more f (λ k. k) 0 n n (omega arith), ap (λ m. sum_by f (map (λ k. k) (range_with_len 0 m))) next)
-
 -- what a holder has of an asset, free and blocked
 abbrev pub held_by : List Balance → ℕ → ℕ → ℕ
 held_by xs a h = (balance_at xs h a).free + (balance_at xs h a).blocked
 
 module _ (xs : List Balance) (a : ℕ) where
   pub held-total : total (table_book xs) a ≡ sum_by (held_by xs a) (range_with_len 0 16)
-  held-total = sum_to-numbers 16 (held_by xs a) ∙ ap (sum_by (held_by xs a)) (map-id (range_with_len 0 16))
+  held-total = sum_to-range 16 (held_by xs a)
 
   pub held-fits : a < 12 → Bounded xs → sum_by (held_by xs a) (range_with_len 0 16) < 2 ^ 64
   held-fits aa b = omega (arith, held-total, b a aa)

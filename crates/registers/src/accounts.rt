@@ -20,7 +20,7 @@ pub(crate) trait Accounts {
     fn balance(&self, account: Known) -> Balance
         ensures { result ≡ balance_of (book self.now) account.holder account.asset };
 
-    // What all holders have of an asset, free and blocked.
+    // What all holders have of an asset, free and blocked. Kept as a demand: here alone an asset stands without its holder.
     fn held(&self, asset: u8) -> u64
         requires { asset < 12 }
         ensures { result ≡ total (book self.now) asset };

@@ -25,7 +25,7 @@ impl<A> Bottom<A> {
     }
 }
 
-// Refuses with a cause unless the condition holds.
+// Refuses with a cause unless the condition holds. Kept with holder and asset apart: it also refuses where there is no such account.
 fn check(met: bool, cause: RegisterCause, holder: u8, asset: u8) -> Result<(), RegisterFault>
     ensures { result ≡ granted (need met (fault cause holder asset 0) None) tt }
 {
@@ -71,7 +71,8 @@ fn settled(made: Result<(), RegisterFault>, slip: Slip) -> Result<(), (RegisterF
 }
 
 impl<A: Accounts> Bottom<A> {
-    // The balance of an account with at least this much free.
+    // The balance of an account with at least this much free. Kept as two, this and the next: one for both would have each caller name the
+    // part of the balance and the cause.
     fn having_free(&self, account: Known, amount: u64) -> Result<Balance, RegisterFault>
         ensures { result ≡ granted (need (nat_le amount ((A.Accounts.book self.now.accounts).free account.holder account.asset)) (fault TooLittleFree account.holder account.asset 0) None) (balance_of (A.Accounts.book self.now.accounts) account.holder account.asset) }
     {

@@ -48,6 +48,7 @@ impl Accounts for List {
 
     ghost untagged = { first_of (Prim.search rules, Prim.grind (arith, Self.row.coded.inj)) };
 
+    // Kept as a match, as in `put` below: no plainer by `map_or`, since what stands at a place is read and written alike.
     fn balance(&self, account: Known) -> Balance {
         match self.place(account) {
             Some(at) => self.entries[at].balance,

@@ -38,6 +38,7 @@ pub const MOST_PRICE: u64 = 10_000_000;
 // The most lots of one bid.
 pub const MOST_LOTS: u64 = 1_000_000;
 
+// Kept as two, this and the next: each has a limit of its own, which one for both would have each caller name.
 pub fn is_price(number: u64) -> bool
     ensures { result ≡ is_price_lem number }
 {

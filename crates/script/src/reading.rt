@@ -44,7 +44,8 @@ impl fmt::Display for LineFault {
 
 impl Error for LineFault {}
 
-// What one word of a line can write. `reads` says which value each word writes, or what is wrong with it.
+// What one word of a line can write. `reads` says which value each word writes, or what is wrong with it. Kept in place of `TryFrom`: a
+// side, a session and an Option are types of other crates, for which this one can't implement a trait of the library.
 pub(crate) trait Word: Sized {
     ghost reads: { List ℕ → Result Self LineFault };
 

@@ -47,8 +47,8 @@ impl Desk {
     // Takes the bid of this ticker, holder and number out of its queue, if it stands, and says on which side.
     pub(crate) fn take_named(
         &mut self,
-        ticker: u8,
         holder: u8,
+        ticker: u8,
         number: u32,
     ) -> Option<(Side, Standing)>
         requires { ticker_known ticker ≡ true }

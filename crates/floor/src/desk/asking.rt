@@ -78,8 +78,8 @@ impl Desk {
         check(self.given < 100_000, FloorRefusal::NumbersSpent)
     }
 
-    // The book of a ticker. Kept as a demand, here and in the three that call it: who is asked a ticker has checked it among other things,
-    // and a type for tickers that there are would be made of each number again.
+    // The book of a ticker. Kept as a demand, here and in the rest of the desk: who is asked a ticker has checked it among other things, and
+    // a type for tickers that there are would be made of each number again.
     pub(crate) fn book(&self, ticker: u8) -> &TickerBook
         requires { ticker_known ticker ≡ true }
         ensures { sheet_of result.now ≡ sheets_of self.now.books ticker }
@@ -97,19 +97,14 @@ impl Desk {
             _ => true,
         }
     }
-}
 
-impl Desk {
     // The price that a bid trades and blocks at: the stated one, after trading the average.
     fn limit(&self, bid: &Bid) -> Option<u32>
         requires { Askable self.now bid.now }
         ensures { result ≡ limit_of (world_of empty_book self.now) bid.now }
     {
         match self.session {
-            Session::PostTrading => match self.book(bid.ticker).average() {
-                Some(price) => Some(price as u32),
-                None => None,
-            },
+            Session::PostTrading => self.book(bid.ticker).average().map(|price| price as u32),
             _ => bid.price,
         }
     }

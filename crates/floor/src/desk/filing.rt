@@ -11,6 +11,7 @@ use super::Desk;
 use model::words::{Listing, Quote, Session};
 use queues::books::TickerBook;
 use register::registers::Register;
+use rules::MOST_PRICE;
 use std::array;
 
 impl Desk {
@@ -39,7 +40,7 @@ pub fn are_valid(quotes: &[Quote]) -> bool
 fn is_valid(quote: &Quote) -> bool
     ensures { result ≡ valid_quote quote.now }
 {
-    quote.currency <= 3 && quote.settlement <= 10_000_000
+    quote.currency <= 3 && u64::from(quote.settlement) <= MOST_PRICE
 }
 
 // What a holder has blocked of an asset.
@@ -58,24 +59,14 @@ fn is_free<R: Register>(register: &R, holder: u8) -> bool
     requires { holder < 16 }
     ensures { result ≡ (sum_to 12 (λ a. (R.Register.means register.now).blocked holder a) == 0) }
 {
-    for asset in 0..12 {
-        if blocked(register, holder, asset) > 0 {
-            return false;
-        }
-    }
-    true
+    (0..12).all(|asset| blocked(register, holder, asset) == 0)
 }
 
 // Whether nothing is blocked at a register.
 pub fn is_quiet<R: Register>(register: &R) -> bool
     ensures { result ≡ nothing_blocked (R.Register.means register.now) }
 {
-    for holder in 0..16 {
-        if !is_free(register, holder) {
-            return false;
-        }
-    }
-    true
+    (0..16).all(|holder| is_free(register, holder))
 }
 
 // A new day for every ticker: no trade counts yet.

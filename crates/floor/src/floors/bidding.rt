@@ -1,11 +1,11 @@
 // Bids, in every session that takes them.
-ghost use Rattle.std.specs.Prelude.{◌≡◌, ◌-◌, ◌<◌, ◌++◌, length, drop};
+ghost use Rattle.std.specs.Prelude.{◌≡◌, ◌-◌, ◌<◌, length};
 ghost use Rattle.model.specs.Checks.{why};
 ghost use Rattle.model.specs.Calls.{answer, after, trades, receipt};
 ghost use Rattle.model.specs.declared.calls.Call.TheVariants as call;
 ghost use Rattle.matching.specs.Dealing.{mine_of};
 ghost use Rattle.floor.specs.Bargains.{Bargained};
-ghost use Rattle.floor.specs.Making.{Leaves};
+ghost use Rattle.floor.specs.Making.{Leaves, written};
 ghost use Rattle.floor.specs.Floors.{seen, SoundFloor};
 ghost use Rattle.floor.specs.Replies.{placed, unless};
 ghost use Rattle.floor.specs.Blocking.{blocked_by, block_fault};
@@ -40,7 +40,7 @@ impl<R: Register, M: MarketRule> State<R, M> {
         requires { SoundFloor R.Register.means M.MarketRule.means self.old }
         ensures answer { result ≡ unless (why (M.MarketRule.means self.old.rule) (seen R.Register.means self.old) (call.Place shown bid (length strip.old))) (receipt (seen R.Register.means self.old) bid) }
         ensures leaves { Leaves R.Register.means self.old self.new (after (M.MarketRule.means self.old.rule) (seen R.Register.means self.old) (call.Place shown bid (length strip.old))) }
-        ensures strip { strip.new ≡ trades (M.MarketRule.means self.old.rule) (seen R.Register.means self.old) (call.Place shown bid (length strip.old)) ++ drop (length (trades (M.MarketRule.means self.old.rule) (seen R.Register.means self.old) (call.Place shown bid (length strip.old)))) strip.old }
+        ensures strip { strip.new ≡ written (trades (M.MarketRule.means self.old.rule) (seen R.Register.means self.old) (call.Place shown bid (length strip.old))) strip.old }
     {
         self.desk.check_form(shown, &bid, strip.len())?;
         let newcomer = self.desk.newcomer(bid);
@@ -64,7 +64,7 @@ impl<R: Register, M: MarketRule> Floor<R, M> {
     ) -> Result<Receipt, Fault>
         ensures answer { placed result ≡ answer (M.MarketRule.means self.old.state.rule) (seen R.Register.means self.old.state) (call.Place P.Pass.serving bid (length strip.old)) }
         ensures leaves { Leaves R.Register.means self.old.state self.new.state (after (M.MarketRule.means self.old.state.rule) (seen R.Register.means self.old.state) (call.Place P.Pass.serving bid (length strip.old))) }
-        ensures strip { strip.new ≡ trades (M.MarketRule.means self.old.state.rule) (seen R.Register.means self.old.state) (call.Place P.Pass.serving bid (length strip.old)) ++ drop (length (trades (M.MarketRule.means self.old.state.rule) (seen R.Register.means self.old.state) (call.Place P.Pass.serving bid (length strip.old)))) strip.old }
+        ensures strip { strip.new ≡ written (trades (M.MarketRule.means self.old.state.rule) (seen R.Register.means self.old.state) (call.Place P.Pass.serving bid (length strip.old))) strip.old }
         ensures bargain { Bargained (seen R.Register.means self.old.state) (seen R.Register.means self.new.state) bid result strip.new }
     {
         let placed = self.state.place(pass.session(), bid, strip);

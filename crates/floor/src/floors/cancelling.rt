@@ -36,9 +36,8 @@ impl<R: Register, M: MarketRule> State<R, M> {
     {
         allowed(self.desk.session, Event::Cancel(shown))?;
         check(is_known(holder, ticker), FloorRefusal::NoHolderOrTicker)?;
-        let Some((side, bid)) = self.desk.take_named(ticker, holder, number) else {
-            return Err(Cause::Floor(FloorRefusal::NoSuchBid));
-        };
+        let named = self.desk.take_named(holder, ticker, number);
+        let (side, bid) = named.ok_or(FloorRefusal::NoSuchBid)?;
         let asset = asset_of(&self.desk.listing, ticker, side);
         release(&mut self.register, slip_of(bid, side, asset));
         Ok(bid.lots)

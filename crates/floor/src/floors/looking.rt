@@ -13,7 +13,7 @@ use model::faults::{CallKind, Cause, Fault, FloorRefusal};
 use model::words::{Session, Standing};
 use register::faults::Account;
 use register::registers::Register;
-use rules::{MarketRule, Side};
+use rules::{MarketRule, Side, check};
 
 impl<R: Register, M: MarketRule> Floor<R, M> {
     pub fn session(&self) -> Session
@@ -34,9 +34,7 @@ impl<R: Register, M: MarketRule> Floor<R, M> {
     pub fn queue(&self, ticker: u8, side: Side) -> Result<&[Standing], Fault>
         ensures { elim result [ Ok q ↦ look_queue (seen R.Register.means self.now.state) ticker side ≡ Ok q.now | Err f ↦ look_queue (seen R.Register.means self.now.state) ticker side ≡ Err f ] }
     {
-        if !is_known(0, ticker) {
-            return Err(no_ticker(ticker));
-        }
+        check(is_known(0, ticker), no_ticker(ticker))?;
         Ok(self.state.desk.book(ticker).own(side).bids())
     }
 
@@ -44,9 +42,7 @@ impl<R: Register, M: MarketRule> Floor<R, M> {
     pub fn average(&self, ticker: u8) -> Result<Option<u64>, Fault>
         ensures { result ≡ look_average (seen R.Register.means self.now.state) ticker }
     {
-        if !is_known(0, ticker) {
-            return Err(no_ticker(ticker));
-        }
+        check(is_known(0, ticker), no_ticker(ticker))?;
         Ok(self.state.desk.book(ticker).average())
     }
 }

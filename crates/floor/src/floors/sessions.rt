@@ -83,7 +83,8 @@ impl<R: Register, M: MarketRule> Floor<R, M> {
         }
     }
 
-    // Ends post-trading: takes its pass and closes the floor, which can then be started again. A refusal hands the pass back.
+    // Ends post-trading: takes its pass and closes the floor, which can then be started again. A refusal hands the pass back. Kept as a
+    // match: the three calls that hand a pass back are written alike.
     pub fn end_post_trading(
         &mut self,
         pass: PostTradingPass,

@@ -1,4 +1,4 @@
-use Rattle.std.proofs.Common.{◌<◌, length, arith, rules}
+use Rattle.std.proofs.Common.{◌+◌, ◌<◌, length, ap, ◌∙◌, arith, rules}
 use Rattle.auction.proofs.Reaching.{lots-none, lots-first}
 use Rattle.auction.proofs.volumes.+lots_to.Goals as goal
 
@@ -8,4 +8,4 @@ returns-then-is_empty t c = record { lots = lots-none c.args.bids.now c.args.pla
 pub returns : goal.returns
 returns t c =
     let some : 0 < length c.args.bids.now = search rules in
-    record { lots = lots-first c.args.bids.now _ c.args.place c.lots_to.result (omega arith) some c.lots_to.ensures.lots; within = search rules }
+    record { lots = ap (λ n. n + c.lots_to.result) c.from.ensures ∙ lots-first c.args.bids.now _ c.args.place c.lots_to.result (omega arith) some c.lots_to.ensures.lots; within = search rules }

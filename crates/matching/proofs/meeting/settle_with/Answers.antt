@@ -9,7 +9,7 @@ settle_by-requires g c =
     let a = c.args in
     let k = g.R.Register.means a.register.now in
     let mine = mine-is a.newcomer.now a.maker a.lots k a.slip.now c.cut_off-mine.result c.used.result c.requires c.used.ensures c.cut_off-mine.ensures.part in
-    let theirs : c.new-theirs.result ≡ theirs_of a.newcomer.now a.maker a.lots = search rules in
+    let theirs : c.slip_of-theirs.result ≡ theirs_of a.newcomer.now a.maker a.lots = search rules in
     let worth : c.from.result * c.from-2.result ≡ a.maker.price * a.lots = search rules in
     payable a.newcomer.now a.maker a.lots k a.slip.now _ _ _ c.requires mine theirs worth
 
@@ -18,7 +18,7 @@ returns g c =
     let a = c.args in
     let k = g.R.Register.means a.register.now in
     let mine = mine-is a.newcomer.now a.maker a.lots k a.slip.now c.cut_off-mine.result c.used.result c.requires c.used.ensures c.cut_off-mine.ensures.part in
-    let theirs : c.new-theirs.result ≡ theirs_of a.newcomer.now a.maker a.lots = search rules in
+    let theirs : c.slip_of-theirs.result ≡ theirs_of a.newcomer.now a.maker a.lots = search rules in
     let worth : c.from.result * c.from-2.result ≡ a.maker.price * a.lots = search rules in
     record {
       book = c.settle_by.ensures ∙ ap (λ (ms : List Move). moved_all ms k) (exchange-is a.newcomer.now a.maker a.lots _ _ _ mine theirs worth);

@@ -1,11 +1,12 @@
-use Rattle.std.proofs.Common.{ap, ◌∙◌, arith}
+use Rattle.std.proofs.Common.{sym, ap, ◌∙◌, arith}
 use Rattle.model.specs.World.{Sheet, average_of}
 use Rattle.queues.specs.Sheets.{sheets_of}
 use Rattle.floor.proofs.Outlined.{average-within}
 use Rattle.floor.proofs.desk.Desk.limit.Goals as goal
 
-pub overflow_cast-result : goal.overflow_cast-result
-overflow_cast-result c =
+pub map-requires : goal.map-requires
+map-requires c = λ price e _ _.
     let s = sheets_of c.args.self.now.books c.args.bid.now.ticker in
-    let h = average-within s.worth s.traded c.in-Some.price (c.in-Some.ensures ∙ ap (λ (x : Sheet). average_of x) c.book.ensures) c.requires.dearest in
+    let average = sym e ∙ c.average.ensures ∙ ap (λ (x : Sheet). average_of x) c.book.ensures in
+    let h = average-within s.worth s.traded price average c.requires.dearest in
     omega arith
