@@ -2,7 +2,7 @@
 use Rattle.std.proofs.Common.{◌≡◌, ℕ, zero, suc, ◌+◌, ◌-◌, ◌*◌, ◌<◌, ◌≤◌, Bool, true, false, cond, ◌&&◌, eqb, ltb, ◌⊎◌, List, [], ◌∷◌, ◌++◌, map, length, get_or, take, drop, set, sym, refl, ap, ◌∙◌, subst, inl, inr, arith}
 use mathlib.Core.Path.{fun_ext}
 use Rattle.std.specs.List.{flat_map as joined, AllByRecursion}
-use Rattle.std.proofs.lemmas.List.{length-append, length-drop, length-map, take_at}
+use Rattle.std.proofs.lemmas.List.{length-append, length-drop, length-map, length-take, take_at}
 use Rattle.std.proofs.lemmas.Bool.{cond-true, cond-false, cond_both, cases_Bool, eqb-true, and_from, lt-ltb}
 use Rattle.std.proofs.lemmas.Bool.Decides.{nat_tests}
 use Rattle.rules.specs.declared.bid.Side.{Side}
@@ -33,7 +33,7 @@ use Rattle.auction.proofs.Fairness.{few-trades, fair}
 
 -- ---- the queues of books have at most 64 bids each
 few-entries : (q : Queue) → length (entries q) ≤ 64
-few-entries q = q.within
+few-entries q = omega (arith, length-take q.len q.bids, q.within)
 
 few_on : (books : List TickerBook) (i : ℕ) (side : Side) → length (queue_of (get_or (map sheet_of books) i blank_sheet) side) ≤ 64
 few_on [] i Buy = omega arith

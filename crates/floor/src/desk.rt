@@ -10,7 +10,7 @@ pub(crate) mod filing;
 
 // `given` counts the registration numbers of the day; the books are those of the tickers 4 to 11. Kept beside the listing, which has a
 // line for each of the same tickers: it comes whole at the start of a day and is only read, and the books change with each bid.
-#[derive(Drop)]
+#[derive(Clone, Copy)]
 pub struct Desk {
     pub session: Session,
     pub listing: Listing,

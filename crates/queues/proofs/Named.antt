@@ -1,12 +1,15 @@
 -- The bid of a holder and number: where it is found, and what is left without it. Assumes nothing.
-use Rattle.std.proofs.Common.{◌≡◌, ℕ, suc, ◌<◌, ◌≤◌, Bool, true, false, cond, ltb, List, [], ◌∷◌, length, get_or, slice_get, Some, None, Option, refl, ap, ◌∙◌, arith}
+use Rattle.std.proofs.Common.{◌≡◌, ℕ, suc, ◌<◌, ◌≤◌, Bool, true, false, cond, ltb, List, [], ◌∷◌, length, get_or, Some, None, Option, refl, ap, ◌∙◌, arith}
 use Rattle.std.specs.List.{remove}
 use Rattle.std.proofs.lemmas.Bool.Decides.{nat_tests}
-use Rattle.std.proofs.lemmas.Option.{slice_get-get_or}
 use Rattle.model.specs.declared.words.Standing.{Standing}
 use Rattle.model.specs.Queues.{named}
 use Rattle.ranking.specs.Ranks.{first_place}
-use Rattle.queues.specs.Entries.{place_named_lem, entry_named, less_named}
+use Rattle.queues.specs.Entries.{first_of, place_named_lem, entry_named, less_named}
+
+pub first_taken : (xs : List Standing) (r : Standing) → 0 < length xs → ((d : Standing) → r ≡ get_or xs 0 d) → Some r ≡ first_of xs
+first_taken [] r h e = absurd (omega arith)
+first_taken (x ∷ xs) r h e = ap Some (e x)
 
 module _ (h n : ℕ) where
   entry_at : (xs : List Standing) (d : Standing) → first_place (named h n) xs < length xs → Some (get_or xs (first_place (named h n) xs) d) ≡ entry_named h n xs
@@ -45,11 +48,10 @@ module _ (h n : ℕ) where
   pub found_within : (xs : List Standing) (i : ℕ) → Some i ≡ place_named_lem h n xs → i < length xs
   found_within xs i e = let p = place-some xs i e in omega arith
 
-  pub got-named : (xs : List Standing) (i : ℕ) → Some i ≡ place_named_lem h n xs → slice_get xs i ≡ entry_named h n xs
-  got-named xs i e =
+  pub taken-named : (xs : List Standing) (i : ℕ) (r : Standing) → Some i ≡ place_named_lem h n xs → ((d : Standing) → r ≡ get_or xs i d) → Some r ≡ entry_named h n xs
+  taken-named xs i r e g =
       let p = place-some xs i e in
-      let d : Standing = record { number = 0; holder = 0; price = 0; lots = 0 } in
-      slice_get-get_or xs i d (found_within xs i e) ∙ ap (λ (k : ℕ). Some (get_or xs k d)) p.0 ∙ entry_at xs d p.1
+      ap Some (g r ∙ ap (λ (k : ℕ). get_or xs k r) p.0) ∙ entry_at xs r p.1
 
   pub left-named : (xs : List Standing) (i : ℕ) → Some i ≡ place_named_lem h n xs → remove xs i ≡ less_named h n xs
   left-named xs i e = ap (remove xs) (place-some xs i e).0 ∙ less-at xs

@@ -1,5 +1,5 @@
 -- What a queue stands for, and what is done to it, as lists of standing bids, first to be served first.
-use Rattle.std.specs.Prelude.{ℕ, ◌-◌, Bool, cond, List, [], ◌∷◌, length, Some, None, Option, nat_eq, nat_lt}
+use Rattle.std.specs.Prelude.{ℕ, ◌-◌, Bool, cond, List, [], ◌∷◌, length, take, Some, None, Option, nat_eq, nat_lt}
 use Rattle.model.specs.Words.{any_of}
 use Rattle.model.specs.declared.words.Standing.{Standing}
 use Rattle.model.specs.Queues.{with_lots, named}
@@ -7,7 +7,7 @@ use Rattle.ranking.specs.Ranks.{first_place}
 use Rattle.queues.specs.declared.queue.Queue.{Queue}
 
 abbrev pub entries : Queue → List Standing
-entries q = q.bids.items
+entries q = take q.len q.bids
 
 -- the bid that is served first
 abbrev pub first_of : List Standing → Option Standing

@@ -13,7 +13,7 @@ use model::words::Standing;
 use rules::Side;
 
 // The two queues of a ticker, and of its trades in opening and trading the sum of price × lots and the lots.
-#[derive(Drop)]
+#[derive(Clone, Copy)]
 pub struct TickerBook {
     pub buys: Queue,
     pub sells: Queue,

@@ -3,4 +3,4 @@ pub mod Perms
 pub mod Ranked
 pub mod Ties
 pub mod Lookups
-pub mod Changes
+pub mod Slots

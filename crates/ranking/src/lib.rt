@@ -2,6 +2,7 @@
 
 ghost use Rattle.std.specs.Prelude.{◌≡◌, Bool, true, false};
 
+mod gaps;
 mod lists;
 #[cfg(test)]
 mod tests;

@@ -1,10 +1,10 @@
-ghost use Rattle.std.specs.Prelude.{◌≡◌, ◌<◌, ◌≤◌, true, ◌∷◌, length, slice_index_or};
+ghost use Rattle.std.specs.Prelude.{◌≡◌, ◌+◌, ◌-◌, ◌<◌, ◌≤◌, true, ◌∷◌, length, take, drop, slice_index_or};
 ghost use mathlib.Core.List.{Permᴰ};
 ghost use Rattle.std.specs.List.{remove};
 ghost use Rattle.ranking.specs.Ranks.{place_of, insert_ranked, ties, tie_place, Ranked, is_ranked};
 
 use super::Ranking;
-use arrayvec::ArrayVec;
+use super::gaps::{close_gap, insert_at};
 
 // The place where `item` goes in the list `slots`: the first whose entry it is before, else the end.
 pub fn place<K: Ranking>(slots: &[K::Entry], item: &K::Entry) -> usize
@@ -31,30 +31,34 @@ pub fn find<K: Ranking>(slots: &[K::Entry], item: &K::Entry) -> Option<usize>
     slots.iter().position(|x| tie::<K>(item, x))
 }
 
-// Puts `item` in its place in the list, behind all that it is not before, and answers the place.
-pub fn insert<K: Ranking, const N: usize>(list: &mut ArrayVec<K::Entry, N>, item: K::Entry) -> usize
-    requires { length list.old.items < N }
-    ensures place { result ≡ place_of K.Ranking.before item list.old.items }
-    ensures front { list.new.items ≡ insert_ranked K.Ranking.before item list.old.items }
-    ensures same { Permᴰ (item ∷ list.old.items) list.new.items }
-    ensures ranked { Ranked K.Ranking.before list.old.items → Ranked K.Ranking.before list.new.items }
-    ensures tested { is_ranked K.Ranking.before list.old.items ≡ true → is_ranked K.Ranking.before list.new.items ≡ true }
+// Puts `item` in its place in the list in the first `len` slots, behind all that it is not before, and answers the place.
+// The entries from there on move one place back, so one slot behind the list is taken; the slots behind that stay.
+pub fn insert<K: Ranking>(slots: &mut [K::Entry], len: usize, item: K::Entry) -> usize
+    requires { len < length slots.old }
+    ensures place { result ≡ place_of K.Ranking.before item (take len slots.old) }
+    ensures front { take (len + 1) slots.new ≡ insert_ranked K.Ranking.before item (take len slots.old) }
+    ensures behind { drop (len + 1) slots.new ≡ drop (len + 1) slots.old }
+    ensures same { Permᴰ (item ∷ take len slots.old) (take (len + 1) slots.new) }
+    ensures ranked { Ranked K.Ranking.before (take len slots.old) → Ranked K.Ranking.before (take (len + 1) slots.new) }
+    ensures tested { is_ranked K.Ranking.before (take len slots.old) ≡ true → is_ranked K.Ranking.before (take (len + 1) slots.new) ≡ true }
 {
-    let at = place::<K>(list.as_slice(), &item);
-    list.insert(at, item);
+    let at = place::<K>(&slots[..len], &item);
+    insert_at(slots, len, at, item);
     at
 }
 
-// Takes the entry at the place `at` out of the list, closes the gap, and answers the entry.
-pub fn remove<K: Ranking, const N: usize>(list: &mut ArrayVec<K::Entry, N>, at: usize) -> K::Entry
-where
-    K::Entry: Default,
-    requires { at < length list.old.items }
-    ensures taken { (d : K.Entry) → result ≡ slice_index_or list.old.items at d }
-    ensures front { list.new.items ≡ remove list.old.items at }
-    ensures same { Permᴰ list.old.items (result ∷ list.new.items) }
-    ensures ranked { Ranked K.Ranking.before list.old.items → Ranked K.Ranking.before list.new.items }
-    ensures tested { is_ranked K.Ranking.before list.old.items ≡ true → is_ranked K.Ranking.before list.new.items ≡ true }
+// Takes the entry at the place `at` out of the list in the first `len` slots, closes the gap, and answers the entry.
+// The slots from the list's last on stay as they were, so the last one is spare afterwards.
+pub fn remove<K: Ranking>(slots: &mut [K::Entry], len: usize, at: usize) -> K::Entry
+    requires { (len ≤ length slots.old) × (at < len) }
+    ensures taken { (d : K.Entry) → result ≡ slice_index_or (take len slots.old) at d }
+    ensures front { take (len - 1) slots.new ≡ remove (take len slots.old) at }
+    ensures behind { drop (len - 1) slots.new ≡ drop (len - 1) slots.old }
+    ensures same { Permᴰ (take len slots.old) (result ∷ take (len - 1) slots.new) }
+    ensures ranked { Ranked K.Ranking.before (take len slots.old) → Ranked K.Ranking.before (take (len - 1) slots.new) }
+    ensures tested { is_ranked K.Ranking.before (take len slots.old) ≡ true → is_ranked K.Ranking.before (take (len - 1) slots.new) ≡ true }
 {
-    list.remove(at)
+    let taken = slots[at];
+    close_gap(slots, len, at);
+    taken
 }

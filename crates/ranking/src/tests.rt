@@ -2,11 +2,8 @@ ghost use Rattle.std.specs.Prelude.{nat_lt};
 ghost use Rattle.std.proofs.Common.{rules};
 
 use super::{Ranking, find, insert, place, remove};
-use arrayvec::ArrayVec;
-use std::alloc::{AllocError, Global};
-use std::test::Fail;
 
-#[derive(Clone, Copy, Default)]
+#[derive(Clone, Copy)]
 struct Ticket {
     rank: u8,
     number: u8,
@@ -35,47 +32,46 @@ fn numbered(rank: u8, number: u8) -> Ticket {
     Ticket { rank, number }
 }
 
-fn numbers(alloc: Global, list: &ArrayVec<Ticket, 6>) -> Result<ArrayVec<u8, 6>, AllocError> {
-    list.iter().map(|ticket| ticket.number).collect(alloc)
+fn numbers(slots: &[Ticket; 6]) -> [u8; 6] {
+    [
+        slots[0].number,
+        slots[1].number,
+        slots[2].number,
+        slots[3].number,
+        slots[4].number,
+        slots[5].number,
+    ]
 }
 
-// Tickets of one rank stand in the order in which they came.
+// Tickets of one rank stand in the order in which they came, and the spare slot stays.
 #[test]
-fn insertion_goes_behind_ties(rt: HostRuntime) -> Result<(), Fail> {
-    let mut list = ArrayVec::<Ticket, 6>::new();
-    assert_eq!(rt; insert::<Ranks, 6>(&mut list, numbered(2, 1)), 0);
-    assert_eq!(rt; insert::<Ranks, 6>(&mut list, numbered(1, 2)), 0);
-    assert_eq!(rt; insert::<Ranks, 6>(&mut list, numbered(2, 3)), 2);
-    assert_eq!(rt; insert::<Ranks, 6>(&mut list, numbered(3, 4)), 3);
-    assert_eq!(rt; insert::<Ranks, 6>(&mut list, numbered(1, 5)), 1);
-    assert_eq!(rt;
-        numbers(rt.alloc(), &list)?.as_slice(),
-        [2, 5, 1, 3, 4].as_slice()
-    );
-    Ok(())
+fn insertion_goes_behind_ties(rt: HostRuntime) {
+    let mut slots = [numbered(0, 9); 6];
+    assert_eq!(rt; insert::<Ranks>(&mut slots, 0, numbered(2, 1)), 0);
+    assert_eq!(rt; insert::<Ranks>(&mut slots, 1, numbered(1, 2)), 0);
+    assert_eq!(rt; insert::<Ranks>(&mut slots, 2, numbered(2, 3)), 2);
+    assert_eq!(rt; insert::<Ranks>(&mut slots, 3, numbered(3, 4)), 3);
+    assert_eq!(rt; insert::<Ranks>(&mut slots, 4, numbered(1, 5)), 1);
+    assert_eq!(rt; numbers(&slots), [2, 5, 1, 3, 4, 9]);
 }
 
+// The last slot of the list keeps its ticket, and is spare from then on.
 #[test]
-fn removal_closes_the_gap(rt: HostRuntime) -> Result<(), Fail> {
-    let mut list = ArrayVec::<Ticket, 6>::new();
-    list.push(numbered(1, 2));
-    list.push(numbered(1, 5));
-    list.push(numbered(2, 1));
-    list.push(numbered(2, 3));
-    list.push(numbered(3, 4));
-    assert_eq!(rt; remove::<Ranks, 6>(&mut list, 1).number, 5);
-    assert_eq!(rt;
-        numbers(rt.alloc(), &list)?.as_slice(),
-        [2, 1, 3, 4].as_slice()
-    );
-    assert_eq!(rt; remove::<Ranks, 6>(&mut list, 3).number, 4);
-    assert_eq!(rt;
-        numbers(rt.alloc(), &list)?.as_slice(),
-        [2, 1, 3].as_slice()
-    );
-    assert_eq!(rt; remove::<Ranks, 6>(&mut list, 0).number, 2);
-    assert_eq!(rt; numbers(rt.alloc(), &list)?.as_slice(), [1, 3].as_slice());
-    Ok(())
+fn removal_closes_the_gap(rt: HostRuntime) {
+    let mut slots = [
+        numbered(1, 2),
+        numbered(1, 5),
+        numbered(2, 1),
+        numbered(2, 3),
+        numbered(3, 4),
+        numbered(0, 9),
+    ];
+    assert_eq!(rt; remove::<Ranks>(&mut slots, 5, 1).number, 5);
+    assert_eq!(rt; numbers(&slots), [2, 1, 3, 4, 4, 9]);
+    assert_eq!(rt; remove::<Ranks>(&mut slots, 4, 3).number, 4);
+    assert_eq!(rt; numbers(&slots), [2, 1, 3, 4, 4, 9]);
+    assert_eq!(rt; remove::<Ranks>(&mut slots, 3, 0).number, 2);
+    assert_eq!(rt; numbers(&slots), [1, 3, 3, 4, 4, 9]);
 }
 
 #[test]

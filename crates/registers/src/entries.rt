@@ -36,7 +36,8 @@ impl Ranking for ByAccount {
 
     ghost negative = { Prim.search rules };
 
+    // Kept part by part: with the pairs compared as tuples every search of the list took more than twice the instructions.
     fn is_before(a: &Entry, b: &Entry) -> bool {
-        (a.holder, a.asset) < (b.holder, b.asset)
+        a.holder < b.holder || a.holder == b.holder && a.asset < b.asset
     }
 }

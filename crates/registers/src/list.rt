@@ -1,6 +1,6 @@
-ghost use Rattle.std.specs.Prelude.{◌≡◌, ◌≤◌, true, length};
-ghost use Rattle.std.specs.List.{list_all};
-ghost use Rattle.ranking.specs.Ranks.{is_distinct, is_ranked, ties, tie_place};
+ghost use Rattle.std.specs.Prelude.{◌≡◌, ◌<◌, ◌≤◌, true, length};
+ghost use Rattle.std.specs.List.{list_all, remove};
+ghost use Rattle.ranking.specs.Ranks.{insert_ranked, is_distinct, is_ranked, ties, tie_place};
 ghost use Rattle.register.specs.Books.{empty_book};
 ghost use Rattle.registers.specs.Tables.{nothing};
 ghost use Rattle.registers.specs.Lists.{account_before, is_known_lem, is_filled, list_book, TotalsBounded};
@@ -23,6 +23,26 @@ pub struct List {
     ghost known: { list_all is_known_lem entries.items ≡ true },
     ghost filled: { list_all is_filled entries.items ≡ true },
     ghost bounded: { TotalsBounded entries.items },
+}
+
+// Enters an account in its place.
+fn enter(entries: &mut ArrayVec<Entry, 192>, entry: Entry)
+    requires { length entries.old.items < 192 }
+    ensures { entries.new.items ≡ insert_ranked account_before entry entries.old.items }
+{
+    let len = entries.len();
+    entries.push(entry);
+    insert::<ByAccount>(entries.as_mut_slice(), len, entry);
+}
+
+// Takes out the account at a place.
+fn take_out(entries: &mut ArrayVec<Entry, 192>, at: usize)
+    requires { at < length entries.old.items }
+    ensures { entries.new.items ≡ remove entries.old.items at }
+{
+    let len = entries.len();
+    remove::<ByAccount>(entries.as_mut_slice(), len, at);
+    entries.pop();
 }
 
 impl List {
@@ -75,12 +95,12 @@ impl Accounts for List {
                 if written.has_something() {
                     self.entries[at] = written;
                 } else {
-                    remove::<ByAccount, 192>(&mut self.entries, at);
+                    take_out(&mut self.entries, at);
                 }
             }
             None => {
                 if written.has_something() {
-                    insert::<ByAccount, 192>(&mut self.entries, written);
+                    enter(&mut self.entries, written);
                 }
             }
         }

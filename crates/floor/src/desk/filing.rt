@@ -1,10 +1,11 @@
-ghost use Rattle.std.specs.Prelude.{◌≡◌, ℕ, ◌<◌, ◌==◌};
+ghost use Rattle.std.specs.Prelude.{◌≡◌, ℕ, ◌<◌, ◌==◌, true};
 ghost use Rattle.register.specs.Books.{Book, sum_to};
 ghost use Rattle.model.specs.Words.{all_of};
 ghost use Rattle.model.specs.Checks.{nothing_blocked};
 ghost use Rattle.model.specs.World.{made};
-ghost use Rattle.model.specs.Calls.{new_day};
-ghost use Rattle.queues.specs.Sheets.{sheets_of};
+ghost use Rattle.model.specs.Market.{ticker_known};
+ghost use Rattle.model.specs.Calls.{new_day, with_sheet};
+ghost use Rattle.queues.specs.Sheets.{sheet_of, sheets_of};
 ghost use Rattle.floor.specs.Desks.{world_of, valid_quote};
 
 use super::Desk;
@@ -27,6 +28,17 @@ impl Desk {
             given: 0,
             books: array::from_fn(|_| TickerBook::blank()),
         }
+    }
+
+    // Puts another book in its place; nothing else changes.
+    pub(crate) fn set_book(&mut self, ticker: u8, book: TickerBook)
+        requires { ticker_known ticker ≡ true }
+        ensures sheets { sheets_of self.new.books ≡ with_sheet (sheets_of self.old.books) ticker (sheet_of book) }
+        ensures session { self.new.session ≡ self.old.session }
+        ensures listing { self.new.listing ≡ self.old.listing }
+        ensures given { self.new.given ≡ self.old.given }
+    {
+        self.books[(ticker - 4) as usize] = book;
     }
 }
 

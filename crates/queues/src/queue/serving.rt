@@ -1,32 +1,35 @@
-ghost use Rattle.std.specs.Prelude.{◌≡◌, ◌<◌, ◌↔◌, [], length, drop, ◌==◌, IsOk, MatchResult};
+ghost use Rattle.std.specs.Prelude.{◌≡◌, ◌<◌, ◌↔◌, [], length, drop, ◌==◌, slice_index_or, IsOk, MatchResult};
+ghost use Rattle.std.specs.List.{remove};
 ghost use Rattle.model.specs.Queues.{best_price_lem};
 ghost use Rattle.ranking.specs.Ranks.{insert_ranked};
 ghost use Rattle.queues.specs.Entries.{entries, first_of, lots_taken, place_named_lem, entry_named, less_named, has_holder_lem};
 
 use super::{Queue, QueueFull};
-use arrayvec::ArrayVec;
+use crate::rankings::ByNumber;
 use model::words::Standing;
-use ranking::{Ranking, insert};
+use ranking::{Ranking, insert, remove};
 
 impl Queue {
     // A queue in which no bid stands.
     pub fn empty() -> Queue
         ensures { entries result ≡ [] }
     {
-        let bids = ArrayVec::new();
-        Queue { bids }
+        Queue {
+            bids: [Standing::default(); 64],
+            len: 0,
+        }
     }
 
     pub fn len(&self) -> usize
         ensures { result ≡ length (entries self.now) }
     {
-        self.bids.len()
+        self.len // the places in use
     }
 
     pub fn is_full(&self) -> bool
         ensures { result ≡ (length (entries self.now) == 64) }
     {
-        self.bids.is_full()
+        self.len == 64
     }
 
     // Puts a bid behind all that it is not before, unless the queue is full.
@@ -34,10 +37,11 @@ impl Queue {
         ensures put { IsOk result ↔ (length (entries self.old) < 64) }
         ensures entries { MatchResult result (λ _. entries self.new ≡ insert_ranked K.Ranking.before bid (entries self.old)) (λ _. entries self.new ≡ entries self.old) }
     {
-        if self.bids.len() >= 64 {
+        if self.len >= 64 {
             return Err(QueueFull);
         }
-        insert::<K, 64>(&mut self.bids, bid);
+        insert::<K>(&mut self.bids, self.len, bid);
+        self.len += 1;
         Ok(())
     }
 
@@ -45,7 +49,7 @@ impl Queue {
     pub fn first(&self) -> Option<Standing>
         ensures { result ≡ first_of (entries self.now) }
     {
-        self.bids.first().copied()
+        self.bids().first().copied()
     }
 
     // The price of the bid that is served first.
@@ -59,7 +63,18 @@ impl Queue {
     pub fn bids(&self) -> &[Standing]
         ensures { result.now ≡ entries self.now }
     {
-        self.bids.as_slice()
+        &self.bids[..self.len]
+    }
+
+    // Takes the bid at a place out. The others keep their order, so any ranking's removal serves.
+    fn remove(&mut self, place: usize) -> Standing
+        requires { place < length (entries self.old) }
+        ensures taken { (d : Standing) → result ≡ slice_index_or (entries self.old) place d }
+        ensures left { entries self.new ≡ remove (entries self.old) place }
+    {
+        let taken = remove::<ByNumber>(&mut self.bids, self.len, place);
+        self.len -= 1;
+        taken
     }
 
     // Takes lots from the first bid, which goes when none are left.
@@ -75,7 +90,7 @@ impl Queue {
                 ..bid
             };
         } else {
-            self.bids.remove(0);
+            self.remove(0);
         }
     }
 
@@ -84,14 +99,18 @@ impl Queue {
         ensures taken { result ≡ first_of (entries self.old) }
         ensures left { entries self.new ≡ drop 1 (entries self.old) }
     {
-        self.bids.pop_at(0)
+        if self.len == 0 {
+            None
+        } else {
+            Some(self.remove(0))
+        }
     }
 
     // Where the bid of this holder and number stands.
     pub fn find(&self, holder: u8, number: u32) -> Option<usize>
         ensures { result ≡ place_named_lem holder number (entries self.now) }
     {
-        self.bids
+        self.bids()
             .iter()
             .position(|bid| bid.holder == holder && bid.number == number)
     }
@@ -102,13 +121,13 @@ impl Queue {
         ensures left { entries self.new ≡ less_named holder number (entries self.old) }
     {
         let place = self.find(holder, number)?;
-        self.bids.pop_at(place)
+        Some(self.remove(place))
     }
 
     // Whether the holder has a bid standing.
     pub fn has_holder(&self, holder: u8) -> bool
         ensures { result ≡ has_holder_lem holder (entries self.now) }
     {
-        self.bids.iter().any(|bid| bid.holder == holder)
+        self.bids().iter().any(|bid| bid.holder == holder)
     }
 }

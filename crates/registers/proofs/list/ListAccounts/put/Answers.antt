@@ -1,4 +1,4 @@
-use Rattle.std.proofs.Common.{◌≡◌, length, set, sym, ap, ◌∙◌, subst, arith}
+use Rattle.std.proofs.Common.{◌≡◌, length, set, sym, ap, ◌∙◌, subst}
 use Rattle.std.specs.List.{refill}
 use Rattle.registers.specs.declared.entries.Entry.{Entry}
 use Rattle.registers.specs.Lists.{list_book}
@@ -20,26 +20,24 @@ pub invariant_of-self-else-has_something : goal.invariant_of-self-else-has_somet
 invariant_of-self-else-has_something c =
     let t = c.args.self.now in
     let e : Entry = record { holder = c.args.account.holder; asset = c.args.account.asset; balance = c.args.balance } in
-    let s : Sound c.remove.new.list.items =
-    subst Sound (sym c.remove.ensures.front)
+    let s : Sound c.take_out.new.entries.items =
+    subst Sound (sym c.take_out.ensures)
     (sound-removed t.entries.items e (kept t) c.args.account.holder_known c.args.account.asset_known c.requires c.in-Some.at (sym c.in-Some.ensures) (sym c.if-has_something.ensures)) in
     record { within = sound-fits _ s; ranked = s.ranked; apart = s.apart; known = s.known; filled = s.filled; bounded = s.bounded }
 
-pub insert-requires : goal.insert-requires
-insert-requires c =
+pub enter-requires : goal.enter-requires
+enter-requires c =
     let t = c.args.self.now in
-    let e : Entry = record { holder = c.args.account.holder; asset = c.args.account.asset; balance = c.args.balance } in (
-      omega arith,
-      room-left t.entries.items e
-          (sound-inserted t.entries.items e (kept t) c.args.account.holder_known c.args.account.asset_known c.requires (sym c.if-has_something-2.ensures) (sym c.in-None.ensures)),
-    )
+    let e : Entry = record { holder = c.args.account.holder; asset = c.args.account.asset; balance = c.args.balance } in
+    room-left t.entries.items e
+    (sound-inserted t.entries.items e (kept t) c.args.account.holder_known c.args.account.asset_known c.requires (sym c.if-has_something-2.ensures) (sym c.in-None.ensures))
 
 pub invariant_of-self-then-has_something-2 : goal.invariant_of-self-then-has_something-2
 invariant_of-self-then-has_something-2 c =
     let t = c.args.self.now in
     let e : Entry = record { holder = c.args.account.holder; asset = c.args.account.asset; balance = c.args.balance } in
-    let s : Sound c.insert.new.list.items =
-    subst Sound (sym c.insert.ensures.front)
+    let s : Sound c.enter.new.entries.items =
+    subst Sound (sym c.enter.ensures)
     (sound-inserted t.entries.items e (kept t) c.args.account.holder_known c.args.account.asset_known c.requires (sym c.if-has_something-2.ensures) (sym c.in-None.ensures)) in
     record { within = sound-fits _ s; ranked = s.ranked; apart = s.apart; known = s.known; filled = s.filled; bounded = s.bounded }
 
@@ -56,14 +54,14 @@ returns-else-has_something c =
     let t = c.args.self.now in
     let xs = t.entries.items in
     let e : Entry = record { holder = c.args.account.holder; asset = c.args.account.asset; balance = c.args.balance } in
-    ap list_book c.remove.ensures.front ∙
+    ap list_book c.take_out.ensures ∙
     book-writes xs _ e (writes-removed xs e (kept-apart t) c.in-Some.at (sym c.in-Some.ensures) (empty-balance e (sym c.if-has_something.ensures)))
 
 pub returns-then-has_something-2 : goal.returns-then-has_something-2
 returns-then-has_something-2 c =
     let xs = c.args.self.now.entries.items in
     let e : Entry = record { holder = c.args.account.holder; asset = c.args.account.asset; balance = c.args.balance } in
-    ap list_book c.insert.ensures.front ∙ book-writes xs _ e (writes-inserted xs e (sym c.in-None.ensures))
+    ap list_book c.enter.ensures ∙ book-writes xs _ e (writes-inserted xs e (sym c.in-None.ensures))
 
 pub returns-else-has_something-2 : goal.returns-else-has_something-2
 returns-else-has_something-2 c =
