@@ -9,4 +9,4 @@ mod looks;
 pub mod options;
 pub mod reading;
 mod verbs;
-mod words;
+pub mod words;

@@ -25,7 +25,7 @@ pub enum RuleKind {
 }
 
 // What the value behind an option says.
-#[derive(Clone, Copy)]
+#[derive(Clone, Copy, PartialEq, Eq, Debug)]
 pub enum Due {
     Register,
     Rule,

@@ -60,7 +60,7 @@ fn is_number(word: &[u8]) -> bool
 }
 
 // The number that a word writes in decimal, if it is one and no larger than `most`.
-pub(crate) fn number(word: &[u8], most: u64) -> Result<u64, LineFault>
+pub fn number(word: &[u8], most: u64) -> Result<u64, LineFault>
     ensures { result ≡ number_of most word.now }
 {
     if !is_number(word) {

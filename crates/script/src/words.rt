@@ -13,7 +13,7 @@ fn is_blank(byte: u8) -> bool
 }
 
 // How many bytes at the front pass the test.
-fn run_length<F: Fn(u8) -> bool>(text: &[u8], passes: F) -> usize
+pub fn run_length<F: Fn(u8) -> bool>(text: &[u8], passes: F) -> usize
     requires { F.IsAlwaysCallable passes }
     ensures run { (p : ℕ → Bool) → ((b : ℕ) (r : Bool) → F.post passes b r → r ≡ p b) → result ≡ prefix_len p text.now }
     ensures within { result ≤ length text.now }
@@ -24,7 +24,7 @@ fn run_length<F: Fn(u8) -> bool>(text: &[u8], passes: F) -> usize
 }
 
 // A line up to its comment, which begins at a '#'.
-pub(crate) fn before_comment(line: &[u8]) -> &[u8]
+pub fn before_comment(line: &[u8]) -> &[u8]
     ensures { result.now ≡ uncommented line.now }
 {
     &line[..run_length(line, |byte| byte != b'#')]
@@ -52,7 +52,7 @@ pub(crate) fn one_of<T: Copy, E: Copy>(word: &[u8], table: &[(&[u8], T)], fault:
 
 // The words of a text, read from the left. To a contract it is the list of those that are left.
 #[derive(Drop)]
-pub(crate) struct Words<'a> {
+pub struct Words<'a> {
     rest: &'a [u8],
 }
 
@@ -63,14 +63,14 @@ impl<'a> Model for Words<'a> {
 }
 
 impl<'a> Words<'a> {
-    pub(crate) fn new(text: &'a [u8]) -> Words<'a>
+    pub fn new(text: &'a [u8]) -> Words<'a>
         ensures { result ≡ words_of text.now }
     {
         Words { rest: text }
     }
 
     // The next word, or none where only blanks are left.
-    pub(crate) fn next_word(&mut self) -> Option<&'a [u8]>
+    pub fn next_word(&mut self) -> Option<&'a [u8]>
         ensures { elim result [ None ↦ self.old ≡ [] | Some w ↦ self.old ≡ w.now ∷ self.new ] }
     {
         let text = &self.rest[run_length(self.rest, is_blank)..];

@@ -10,7 +10,7 @@ use script::reading::LineFault;
 use std::fmt;
 
 // A call and what it is answered. A bid is told by its receipt, and a refusal tells itself.
-#[derive(Clone, Copy)]
+#[derive(Clone, Copy, PartialEq, Eq, Debug)]
 pub struct CallLine {
     pub call: Call,
     pub answer: Answer,
@@ -53,7 +53,7 @@ impl fmt::Display for Made {
 }
 
 // One holder's account of one asset.
-#[derive(Clone, Copy)]
+#[derive(Clone, Copy, PartialEq, Eq, Debug)]
 pub struct Entry {
     pub holder: u8,
     pub asset: u8,
@@ -93,7 +93,7 @@ pub fn listed_entry(holder: u8, asset: u8, account: Account) -> Option<Entry>
 }
 
 // The average price of a ticker, told as - where there is none.
-#[derive(Clone, Copy)]
+#[derive(Clone, Copy, PartialEq, Eq, Debug)]
 pub struct AverageLine {
     pub ticker: u8,
     pub average: Option<u64>,
@@ -112,7 +112,7 @@ impl fmt::Display for AverageLine {
 }
 
 // The line that names the session.
-#[derive(Clone, Copy)]
+#[derive(Clone, Copy, PartialEq, Eq, Debug)]
 pub struct SessionLine(pub Session);
 
 impl fmt::Display for SessionLine {
@@ -124,7 +124,7 @@ impl fmt::Display for SessionLine {
 }
 
 // The line for a line that is no call, by its number.
-#[derive(Clone, Copy)]
+#[derive(Clone, Copy, PartialEq, Eq, Debug)]
 pub struct ErrorLine {
     pub line: u64,
     pub fault: LineFault,
